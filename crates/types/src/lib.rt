@@ -100,6 +100,15 @@ impl Outcome {
     }
 }
 
+// What a word of the archive says.
+#[derive(Clone, Copy, PartialEq, Eq, Debug)]
+pub enum ArchiveWord {
+    Making { spin: u8, tasks: u8 },
+    Call { verb: Verb, task: u8 },
+    Outcome(Outcome),
+    Notice(Entry),
+}
+
 // Why a call, a line or a record is refused.
 #[derive(Clone, Copy, PartialEq, Eq, Debug)]
 pub enum Refusal {
