@@ -24,7 +24,7 @@ abbrev pub count : ℕ → Word → ℕ
 count g w = getD (w .counts) g 0
 
 -- How many of the task numbers below n are in group g, where a task's group is the remainder of its number.
-abbrev pub tasksBelow : ℕ → ℕ → ℕ → ℕ
+unfoldable pub tasksBelow : ℕ → ℕ → ℕ → ℕ
 tasksBelow groups g zero = 0
 tasksBelow groups g (suc t) = cond (eqb (t % groups) g) 1 0 + tasksBelow groups g t
 
