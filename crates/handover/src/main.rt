@@ -25,17 +25,31 @@ fn say(rt: &LibcRuntime, step: &str, word: Packed) -> io::Result<()> {
 }
 
 // A task that found no entrance joins the queue, and its waiters mark goes on.
-fn wait(rt: &LibcRuntime, word: &mut Packed, queue: &mut Chain, task: u32, direction: Direction) -> io::Result<()> {
+fn wait(
+    rt: &LibcRuntime,
+    word: &mut Packed,
+    queue: &mut Chain,
+    task: u32,
+    direction: Direction,
+) -> io::Result<()> {
     let joined = queue.join(task, direction);
     word.mark_waiters(direction);
     let length = queue.len();
     let what = name(direction);
-    println!(rt, "task {task} waits to {what}: {joined}, {length} in the queue")?;
+    println!(
+        rt,
+        "task {task} waits to {what}: {joined}, {length} in the queue"
+    )?;
     say(rt, "marked", *word)
 }
 
 // The first of the queue is taken: a writer alone, or a reader.
-fn pass(rt: &LibcRuntime, word: &mut Packed, queue: &mut Chain, notices: &mut Ring<Entry>) -> io::Result<()> {
+fn pass(
+    rt: &LibcRuntime,
+    word: &mut Packed,
+    queue: &mut Chain,
+    notices: &mut Ring<Entry>,
+) -> io::Result<()> {
     let Some(entry) = queue.take_first() else {
         return println!(rt, "nobody waits");
     };

@@ -27,7 +27,7 @@ module _ (new : Entry) where
       cond-both (isReader x && not (hasReader xs)) (x ∷ new ∷ xs) (x ∷ behindLastReader new xs) (λ l. hasTask t l ≡ (eqb (new .task) t || hasTask t (x ∷ xs)))
       (λ last. grind (arith, tells)) (λ last. grind (arith, tells))
 
-  behind-reader : (xs : List Entry) → hasReader (behindLastReader new xs) ≡ (isReader new || hasReader xs)
+  pub behind-reader : (xs : List Entry) → hasReader (behindLastReader new xs) ≡ (isReader new || hasReader xs)
   behind-reader [] = refl
   behind-reader (x ∷ xs) =
       let ih = behind-reader xs in

@@ -1,0 +1,4 @@
+pub mod Grammar
+pub mod Scan
+pub mod Hex
+pub mod Written
