@@ -10,6 +10,7 @@ use Rattle.std.proofs.shelf.Ways.{tells}
 use Rattle.types.specs.declared.Direction.{Direction}
 use Rattle.types.specs.declared.Direction.the-variants.{Read, Write}
 use Rattle.types.specs.declared.Entry.{Entry}
+use Rattle.queue.proofs.Members.{behind-has}
 use Rattle.queue.proofs.Places.{hasReader-append, hasTask-append}
 use Rattle.queue.specs.Queues.{isReader, hasReader, hasTask, tasksInRange, noneTwice, readersFirst, readersAreNeighbours, canJoin, behindLastReader, placed, join, rest}
 
@@ -20,13 +21,6 @@ pub record Lawful (es : List Entry) : Type 0 where
 
 -- What a step keeps of a list, in whichever place the new entry goes.
 module _ (new : Entry) where
-  behind-task : (t : ℕ) (xs : List Entry) → hasTask t (behindLastReader new xs) ≡ (eqb (new .task) t || hasTask t xs)
-  behind-task t [] = refl
-  behind-task t (x ∷ xs) =
-      let ih = behind-task t xs in
-      cond-both (isReader x && not (hasReader xs)) (x ∷ new ∷ xs) (x ∷ behindLastReader new xs) (λ l. hasTask t l ≡ (eqb (new .task) t || hasTask t (x ∷ xs)))
-      (λ last. grind (arith, tells)) (λ last. grind (arith, tells))
-
   pub behind-reader : (xs : List Entry) → hasReader (behindLastReader new xs) ≡ (isReader new || hasReader xs)
   behind-reader [] = refl
   behind-reader (x ∷ xs) =
@@ -48,7 +42,7 @@ module _ (new : Entry) where
       let parts = and-parts (not (hasTask (x .task) xs)) (noneTwice xs) fine in
       let others = or-parts (eqb (x .task) (new .task)) (hasTask (new .task) xs) fresh in
       let ih = behind-none-twice xs (others .1) (parts .1) in
-      let there = behind-task (x .task) xs in
+      let there = behind-has (x .task) new xs in
       cond-both (isReader x && not (hasReader xs)) (x ∷ new ∷ xs) (x ∷ behindLastReader new xs) (λ l. noneTwice l ≡ true)
       (λ last. grind (arith, tells)) (λ last. grind (arith, tells))
 

@@ -1,3 +1,4 @@
 pub mod Laws
+pub mod Members
 pub mod Places
 pub mod Sizes

@@ -1,0 +1,4 @@
+pub mod Content
+pub mod Lined
+pub mod Sections
+pub mod Flags
