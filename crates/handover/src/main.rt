@@ -43,6 +43,17 @@ fn wait(
     say(rt, "marked", *word)
 }
 
+fn show(rt: &LibcRuntime, queue: &Chain) -> io::Result<()> {
+    for place in 0..queue.len() {
+        if let Some(entry) = queue.entry_at(place) {
+            let task = entry.task;
+            let what = name(entry.direction);
+            println!(rt, "queue: task {task} to {what}")?;
+        }
+    }
+    Ok(())
+}
+
 // The first of the queue is taken: a writer alone, or a reader.
 fn pass(
     rt: &LibcRuntime,
@@ -94,6 +105,7 @@ fn main(rt: LibcRuntime) -> io::Result<()> {
     let entered = word.enter_to_read(0);
     println!(rt, "task 2 enters to read: {entered}")?;
     wait(&rt, &mut word, &mut queue, 2, Direction::Read)?;
+    show(&rt, &queue)?;
     let left = word.leave_writing();
     println!(rt, "task 0 leaves with nothing owed: {left}")?;
     pass(&rt, &mut word, &mut queue, &mut notices)?;
