@@ -6,7 +6,7 @@ mod calls;
 use crate::strip::Strip;
 
 #[derive(Drop)]
-pub struct Parts {
+pub(crate) struct Parts {
     ahead: Strip,
     readers: Strip,
     behind: Strip,

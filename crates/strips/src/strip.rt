@@ -6,10 +6,10 @@ ghost use lib.ListN.{length};
 mod calls;
 
 #[derive(Drop)]
-pub struct Strip {
+pub(crate) struct Strip {
     tasks: [u8; 64],
     start: u8,
-    pub len: u8,
+    pub(crate) len: u8,
     ghost places: { length tasks ≡ 64 },
     ghost inside: { start < 64 },
     ghost fits: { len ≤ 64 },

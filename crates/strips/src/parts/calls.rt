@@ -11,7 +11,7 @@ use types::Direction;
 use types::Entry;
 
 impl Parts {
-    pub fn empty() -> Parts
+    pub(crate) fn empty() -> Parts
         ensures { λ r. ⌜ entriesOf r ≡ [] ⌝ }
     {
         Parts {
@@ -22,7 +22,7 @@ impl Parts {
     }
 
     // A writer goes to the end, a reader directly behind the last reader.
-    pub fn place(&mut self, task: u8, direction: Direction)
+    pub(crate) fn place(&mut self, task: u8, direction: Direction)
         requires { ⌜ length (entriesOf (now self)) < 64 ⌝ }
         ensures { λ _. ⌜ entriesOf (now (self .exit)) ≡ placed task direction (entriesOf (now (self .entry))) ⌝ }
     {
@@ -39,7 +39,7 @@ impl Parts {
     }
 
     // When the last reader goes, nobody is ahead, and the writers behind come to stand there.
-    pub fn take_first(&mut self) -> Option<Entry>
+    pub(crate) fn take_first(&mut self) -> Option<Entry>
         ensures answer { λ r. ⌜ r ≡ first (entriesOf (now (self .entry))) ⌝ }
         ensures queue { λ _. ⌜ entriesOf (now (self .exit)) ≡ rest (entriesOf (now (self .entry))) ⌝ }
     {
@@ -63,14 +63,14 @@ impl Parts {
         })
     }
 
-    pub fn len(&self) -> u32
+    pub(crate) fn len(&self) -> u32
         ensures { λ r. ⌜ r ≡ length (entriesOf (now (self .entry))) ⌝ }
     {
         self.ahead.len as u32 + self.readers.len as u32 + self.behind.len as u32
     }
 
     // The entry at a place, counted from the first.
-    pub fn entry_at(&self, place: u32) -> Option<Entry>
+    pub(crate) fn entry_at(&self, place: u32) -> Option<Entry>
         ensures { λ r. ⌜ r ≡ entryAt place (entriesOf (now (self .entry))) ⌝ }
     {
         let ahead = self.ahead.len as u32;

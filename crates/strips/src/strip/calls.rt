@@ -7,7 +7,7 @@ ghost use Rattle.strips.specs.Tasks.{tasksOf};
 use crate::strip::Strip;
 
 impl Strip {
-    pub fn empty() -> Strip
+    pub(crate) fn empty() -> Strip
         ensures { λ r. ⌜ tasksOf r ≡ [] ⌝ }
     {
         Strip {
@@ -18,7 +18,7 @@ impl Strip {
     }
 
     // Puts the task behind the last.
-    pub fn push(&mut self, task: u8)
+    pub(crate) fn push(&mut self, task: u8)
         requires { ⌜ now self .len < 64 ⌝ }
         ensures { λ _. ⌜ tasksOf (now (self .exit)) ≡ tasksOf (now (self .entry)) ++ (task ∷ []) ⌝ }
     {
@@ -28,7 +28,7 @@ impl Strip {
     }
 
     // Takes the first.
-    pub fn take(&mut self) -> u8
+    pub(crate) fn take(&mut self) -> u8
         requires { ⌜ 0 < now self .len ⌝ }
         ensures { λ r. ⌜ tasksOf (now (self .entry)) ≡ r ∷ tasksOf (now (self .exit)) ⌝ }
     {
@@ -39,7 +39,7 @@ impl Strip {
     }
 
     // The task at a place, counted from the first.
-    pub fn at(&self, place: u8) -> u8
+    pub(crate) fn at(&self, place: u8) -> u8
         requires { ⌜ place < now self .len ⌝ }
         ensures { λ r. ⌜ r ≡ getD (tasksOf (now (self .entry))) place 0 ⌝ }
     {
