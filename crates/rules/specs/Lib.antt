@@ -1,0 +1,4 @@
+pub mod Locks
+pub mod Steps
+pub mod Runs
+pub mod Records
