@@ -2,7 +2,7 @@
 use mathlib.Core.Path.{_≡_, refl, sym, ap, _∙_}
 use mathlib.Core.Bool.{true, false, cond, not}
 use mathlib.Core.List.{List, [], _∷_}
-use Prim.Native.Nat.{ℕ, _+_, _-_, _<_}
+use Prim.Native.Nat.{ℕ, _+_, _-_, _<_, _≤_}
 use native.Mathlib.Numerals.{add-one}
 use native.Mathlib.Omega.{arith}
 use lib.Dec.{eqb, ltb}
@@ -11,14 +11,20 @@ use Rattle.std.proofs.shelf.Tests.{and-parts, not-true, ltb-true, eqb-false}
 use Rattle.std.proofs.shelf.Lists.{getD-set-same, getD-set-other, length-set}
 use Rattle.std.proofs.shelf.Ways.{tells}
 use Rattle.types.specs.declared.Direction.{Direction}
+use Rattle.types.specs.declared.Direction.the-variants.{Read, Write}
 use Rattle.types.specs.declared.Entry.{Entry}
-use Rattle.queue.specs.Queues.{hasTask, tasksInRange, noneTwice, canJoin, placed, rest}
+use Rattle.queue.specs.Queues.{isReader, readerCount, hasTask, tasksInRange, noneTwice, canJoin, placed, rest}
+use Rattle.queue.proofs.Readers.{reader-all, reader-placed as count-placed}
 use Rattle.queue.proofs.Sizes.{room-to-join}
 use Rattle.chain.specs.declared.places.Place.{Place}
 use Rattle.chain.specs.declared.places.Links.{Links}
-use Rattle.chain.specs.Walks.{Laws, Agrees, Linkable, Linked, remembered, held, walk, placeAt, entryOf, lastTask, lastReader, goesBehind}
+use Rattle.chain.specs.Walks.{Laws, Agrees, Linkable, Linked, remembered, held, walk, placeAt, entryOf, lastTask, lastReader, readersIn, goesBehind}
 use Rattle.chain.proofs.Entries.{apart, small, behind-there, behind-has, placed-behind, last-placed, reader-placed, last-rest, reader-rest}
 use Rattle.chain.proofs.Walks.{walk-first, walk-other, walk-behind, flag-set, leads-set, walk-length}
+
+reads-one : (t : ℕ) (d : Direction) → cond (isReader (entryOf t d)) 1 0 ≡ readersIn d
+reads-one t Read = refl
+reads-one t Write = refl
 
 -- The first place leaves.
 module _ (l : Links) (laws : Laws (held l)) (agrees : Agrees l) (some : 0 < l .len) (inside : l .head < 64) where
@@ -54,6 +60,15 @@ module _ (l : Links) (laws : Laws (held l)) (agrees : Agrees l) (some : 0 < l .l
   pub dropped-reader : lastReader (rest (held l)) ≡ cond (eqb (l .«last_reader») (l .head)) 64 (l .«last_reader»)
   dropped-reader = rw (agrees .3, begins) (reader-rest front ahead once)
 
+  counted : l .readers ≡ readersIn (front .direction) + readerCount ahead
+  counted = agrees .4 ∙ ap readerCount begins ∙ ap (λ n. n + readerCount ahead) (reads-one (l .head) (front .direction))
+
+  pub dropped-some : readersIn (placeAt (l .places) (l .head) .direction) ≤ l .readers
+  dropped-some = omega (arith, counted)
+
+  pub dropped-count : readerCount (rest (held l)) ≡ l .readers - readersIn (placeAt (l .places) (l .head) .direction)
+  dropped-count = omega (arith, counted, ap (λ es. readerCount (rest es)) begins)
+
 -- A new place is put in.
 module _ (l : Links) (behind task : ℕ) (d : Direction) (fine : Linkable l behind task) where
   inside : task < length (l .places)
@@ -62,7 +77,7 @@ module _ (l : Links) (behind task : ℕ) (d : Direction) (fine : Linkable l behi
   absent : hasTask task (held l) ≡ false
   absent = not-true (hasTask task (held l)) (and-parts (ltb task 64) (not (hasTask task (held l))) (fine .can) .1)
 
-  pub linked-first : (x : Place) → x .direction ≡ d → x .present ≡ true → l .len ≡ 0 → Linked l (record { places = set (l .places) task x; head = task; tail = l .tail; «last_reader» = l .«last_reader»; len = l .len + 1 }) behind task d
+  pub linked-first : (x : Place) → x .direction ≡ d → x .present ≡ true → l .len ≡ 0 → Linked l (record { places = set (l .places) task x; head = task; tail = l .tail; «last_reader» = l .«last_reader»; readers = l .readers; len = l .len + 1 }) behind task d
   linked-first x faces on none =
       record {
         queue = rw (none, getD-set-same (l .places) task x _ inside, faces) refl;
@@ -70,9 +85,10 @@ module _ (l : Links) (behind task : ℕ) (d : Direction) (fine : Linkable l behi
         full = length-set (l .places) task x ∙ fine .full;
         tail = refl;
         reader = refl;
+        count = refl;
       }
 
-  pub linked-behind : 0 < l .len → (x y : Place) → x .next ≡ placeAt (l .places) behind .next → x .direction ≡ d → x .present ≡ true → y .next ≡ task → y .direction ≡ placeAt (set (l .places) task x) behind .direction → y .present ≡ placeAt (set (l .places) task x) behind .present → Linked l (record { places = set (set (l .places) task x) behind y; head = l .head; tail = l .tail; «last_reader» = l .«last_reader»; len = l .len + 1 }) behind task d
+  pub linked-behind : 0 < l .len → (x y : Place) → x .next ≡ placeAt (l .places) behind .next → x .direction ≡ d → x .present ≡ true → y .next ≡ task → y .direction ≡ placeAt (set (l .places) task x) behind .direction → y .present ≡ placeAt (set (l .places) task x) behind .present → Linked l (record { places = set (set (l .places) task x) behind y; head = l .head; tail = l .tail; «last_reader» = l .«last_reader»; readers = l .readers; len = l .len + 1 }) behind task d
   linked-behind some x y goes faces on leads keeps same =
       let ps = l .places in
       let ps₁ = set ps task x in
@@ -93,6 +109,7 @@ module _ (l : Links) (behind task : ℕ) (d : Direction) (fine : Linkable l behi
         full = length-set ps₁ behind y ∙ (length-set ps task x ∙ fine .full);
         tail = refl;
         reader = refl;
+        count = refl;
       }
 
 -- A task joins behind the task that its direction asks for.
@@ -106,6 +123,9 @@ module _ (l : Links) (task : ℕ) (d : Direction) (laws : Laws (held l)) (agrees
   there : (es : List Entry) → tasksInRange es ≡ true → 0 < length es → hasTask (goesBehind d es) es ≡ true
   there [] fine some = absurd (omega arith)
   there (e ∷ es) fine some = behind-there d e es fine
+
+  pub countable : l .readers < 64
+  countable = omega (arith, agrees .4, reader-all (held l), room-to-join task (held l) (laws .0) (laws .1) can)
 
   pub joinable : Linkable (remembered goes task d l) goes task
   joinable =
@@ -121,10 +141,15 @@ module _ (l : Links) (task : ℕ) (d : Direction) (laws : Laws (held l)) (agrees
     pub joined-queue : held after ≡ placed task d (held l)
     joined-queue = linked .queue ∙ sym (placed-behind task d (held l) (laws .0) (laws .1))
 
+    joined-count : after .readers ≡ readerCount (held after)
+    joined-count =
+        omega (arith, linked .count, agrees .4, ap readerCount joined-queue, count-placed task d (held l), reads-one task d)
+
     pub joined-agrees : Agrees after
     joined-agrees = (
       linked .full,
       (λ t inside. linked .flags t ∙ (rw (agrees .1 t inside) (sym (behind-has t goes (entryOf task d) (held l)))) ∙ sym (ap (hasTask t) (linked .queue))),
       linked .tail ∙ (rw (agrees .2) (sym (ap lastTask (linked .queue) ∙ last-placed d (entryOf task d) (held l) (laws .0) (laws .1)))),
       linked .reader ∙ (rw (agrees .3) (sym (ap lastReader joined-queue ∙ reader-placed task d (held l)))),
+      joined-count,
     )

@@ -13,7 +13,7 @@ use Rattle.std.proofs.shelf.Ways.{tells}
 use Rattle.types.specs.declared.Direction.{Direction}
 use Rattle.queue.specs.Queues.{hasTask, tasksInRange, noneTwice, entryAt}
 use Rattle.chain.specs.declared.places.Place.{Place}
-use Rattle.chain.specs.Walks.{entryOf, placeAt, walk, behindTask}
+use Rattle.chain.specs.Walks.{entryOf, placeAt, walk, lastTask, behindTask}
 use Rattle.chain.proofs.Entries.{apart}
 
 pub walk-length : (places : List Place) (n task : ℕ) → length (walk places n task) ≡ n
@@ -87,6 +87,17 @@ rest-small ps n p some fine =
 pub step-at : (ps : List Place) (n p k : ℕ) → 0 < n → 0 < k → entryAt k (walk ps n p) ≡ entryAt (k - 1) (walk ps (n - 1) (placeAt ps p .next))
 step-at ps n p zero some more = absurd (omega arith)
 step-at ps n p (suc k) some more = let e : suc k - 1 ≡ k = omega arith in rw (e, walk-first ps n p some) refl
+
+-- the last entry of a walk, as a walk of one step
+pub walk-last : (ps : List Place) (n p : ℕ) → entryAt 0 (walk ps 1 (lastTask (walk ps (suc n) p))) ≡ entryAt n (walk ps (suc n) p)
+walk-last ps zero p = refl
+walk-last ps (suc n) p = walk-last ps n (placeAt ps p .next)
+
+pub last-small : (ps : List Place) (n p : ℕ) → tasksInRange (walk ps (suc n) p) ≡ true → tasksInRange (walk ps 1 (lastTask (walk ps (suc n) p))) ≡ true
+last-small ps zero p fine = fine
+last-small ps (suc n) p fine =
+    let next = placeAt ps p .next in
+    last-small ps n next (and-parts (ltb p 64) (tasksInRange (walk ps (suc n) next)) fine .1)
 
 -- the flag of a place after a write
 pub flag-set : (ps : List Place) (k : ℕ) (x : Place) (t : ℕ) → k < length ps → placeAt (set ps k x) t .present ≡ cond (eqb k t) (x .present) (placeAt ps t .present)

@@ -2,13 +2,13 @@
 use mathlib.Core.Path.{_≡_}
 use mathlib.Core.Bool.{true, false, cond, _||_}
 use mathlib.Core.List.{List, [], _∷_}
-use Prim.Native.Nat.{ℕ, zero, suc, _<_}
+use Prim.Native.Nat.{ℕ, zero, suc, _+_, _<_}
 use lib.Dec.{eqb}
 use lib.ListN.{length, getD}
 use Rattle.types.specs.declared.Direction.{Direction}
 use Rattle.types.specs.declared.Direction.the-variants.{Read, Write}
 use Rattle.types.specs.declared.Entry.{Entry}
-use Rattle.queue.specs.Queues.{isReader, hasReader, hasTask, tasksInRange, noneTwice, readersAreNeighbours, canJoin}
+use Rattle.queue.specs.Queues.{isReader, hasReader, readerCount, hasTask, tasksInRange, noneTwice, readersAreNeighbours, canJoin}
 use Rattle.chain.specs.declared.places.Place.{Place}
 use Rattle.chain.specs.declared.places.Links.{Links}
 
@@ -58,20 +58,26 @@ Flagged places es = (task : ℕ) → task < 64 → placeAt places task .present 
 abbrev pub Laws : List Entry → Type 0
 Laws es = (tasksInRange es ≡ true) × (noneTwice es ≡ true) × (readersAreNeighbours es ≡ true)
 
--- There are 64 places, and flags, last place and last reader agree with the queue.
+-- There are 64 places, and flags, last place, last reader and number of readers agree with the queue.
 abbrev pub Agrees : Links → Type 0
 Agrees links =
     (length (links .places) ≡ 64)
     × Flagged (links .places) (held links)
     × (links .tail ≡ lastTask (held links))
     × (links .«last_reader» ≡ lastReader (held links))
+    × (links .readers ≡ readerCount (held links))
 
 -- The last reader after a task has joined: the task if it reads, else the one before.
 abbrev pub readerAfter : Direction → ℕ → ℕ → ℕ
 readerAfter Read task before = task
 readerAfter Write task before = before
 
--- The links where a task that joins behind another is last, if that one was, and is the last reader, if it reads.
+-- One for a reader, none for a writer.
+abbrev pub readersIn : Direction → ℕ
+readersIn Read = 1
+readersIn Write = 0
+
+-- The links where a task that joins behind another is last, if that one was, and is the last reader and counted, if it reads.
 abbrev pub remembered : ℕ → ℕ → Direction → Links → Links
 remembered behind task direction links =
     record {
@@ -79,6 +85,7 @@ remembered behind task direction links =
       head = links .head;
       tail = cond (eqb behind (links .tail)) task (links .tail);
       «last_reader» = readerAfter direction task (links .«last_reader»);
+      readers = links .readers + readersIn direction;
       len = links .len;
     }
 
@@ -90,10 +97,11 @@ pub record Linkable (links : Links) (behind task : ℕ) : Type 0 where
   pub room : links .len < 64
   pub known : 0 < links .len → (behind < 64) × (hasTask behind (held links) ≡ true)
 
--- The new entry is behind that of the task, and its flag is on; the other flags, the last place and the last reader are as before.
+-- The new entry is behind that of the task, and its flag is on; the other flags, the last place, the last reader and the number of readers are as before.
 pub record Linked (before after : Links) (behind task : ℕ) (direction : Direction) : Type 0 where
   pub queue : held after ≡ behindTask behind (entryOf task direction) (held before)
   pub flags : (k : ℕ) → placeAt (after .places) k .present ≡ (eqb task k || placeAt (before .places) k .present)
   pub full : length (after .places) ≡ 64
   pub tail : after .tail ≡ before .tail
   pub reader : after .«last_reader» ≡ before .«last_reader»
+  pub count : after .readers ≡ before .readers

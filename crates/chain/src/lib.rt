@@ -1,4 +1,5 @@
-// A wait queue as a chain of places, one for each task, that remembers its last reader: a reader joins without a search.
+// A wait queue as a chain of places, one for each task, that remembers its last reader and counts its readers: a reader
+// joins without a search.
 ghost use Rattle.chain.specs.Walks.{Laws, Agrees, held};
 
 mod places;
@@ -32,6 +33,7 @@ pub impl WaitQueue for Chain as ChainQueue {
             head: NONE,
             tail: NONE,
             last_reader: NONE,
+            readers: 0,
             len: 0,
         };
         Chain { links }
@@ -65,12 +67,21 @@ pub impl WaitQueue for Chain as ChainQueue {
         self.links.len as u32
     }
 
+    fn readers(&self) -> u32 {
+        self.links.readers as u32
+    }
+
     fn entry_at(&self, place: u32) -> Option<Entry> {
         if place >= self.links.len as u32 {
             return None;
         }
         let mut task = self.links.head;
         let mut left = place;
+        // The last is known without a walk.
+        if place + 1 == self.links.len as u32 {
+            task = self.links.tail;
+            left = 0;
+        }
         while left > 0 {
             task = self.links.places[task as usize].next;
             left -= 1;

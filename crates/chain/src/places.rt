@@ -1,11 +1,11 @@
-// The places of a chain: one for each task, with the number of the next place. The last place of the chain and the last
-// reader's are remembered, so that neither is searched for.
+// The places of a chain: one for each task, with the number of the next place. The last place of the chain, the last
+// reader's and the number of readers are remembered, so that none is searched for.
 ghost use mathlib.Core.Path.{_≡_};
 ghost use mathlib.Core.Bool.{true, cond};
 ghost use Prim.Native.Nat.{_<_};
 ghost use lib.Dec.{eqb};
 ghost use Rattle.queue.specs.Queues.{canJoin, placed, rest};
-ghost use Rattle.chain.specs.Walks.{Laws, Agrees, Linkable, Linked, held, goesBehind, remembered};
+ghost use Rattle.chain.specs.Walks.{Laws, Agrees, Linkable, Linked, held, goesBehind, readersIn, remembered};
 use types::Direction;
 
 // One place for each task, 0 to 63.
@@ -27,6 +27,7 @@ pub(crate) struct Links {
     pub(crate) head: u8,
     pub(crate) tail: u8,
     pub(crate) last_reader: u8,
+    pub(crate) readers: u8,
     pub(crate) len: u8,
 }
 
@@ -55,8 +56,9 @@ impl Links {
         }
     }
 
-    // The task is now last if it goes behind the last, and the last reader if it reads.
+    // The task is now last if it goes behind the last, and the last reader if it reads. Readers are counted.
     fn remember(&mut self, behind: u8, task: u8, direction: Direction)
+        requires { ⌜ now self .readers < 64 ⌝ }
         ensures { λ _. ⌜ now (self .exit) ≡ remembered behind task direction (now (self .entry)) ⌝ }
     {
         if behind == self.tail {
@@ -65,6 +67,7 @@ impl Links {
         if let Direction::Read = direction {
             self.last_reader = task;
         }
+        self.readers += readers_in(direction);
     }
 
     // Puts the place of a task behind a place of the chain, or first where the chain is empty.
@@ -100,11 +103,13 @@ impl Links {
         ensures agrees { λ _. ⌜ Agrees (now (self .exit)) ⌝ }
     {
         let task = self.head;
-        self.head = self.places[task as usize].next;
+        let first = self.places[task as usize];
+        self.head = first.next;
         self.places[task as usize].present = false;
         self.len -= 1;
         self.tail = except(self.tail, task);
         self.last_reader = except(self.last_reader, task);
+        self.readers -= readers_in(first.direction);
     }
 }
 
@@ -113,4 +118,14 @@ fn except(place: u8, leaving: u8) -> u8
     ensures { λ r. ⌜ r ≡ cond (eqb place leaving) 64 place ⌝ }
 {
     if place == leaving { NONE } else { place }
+}
+
+// One for a reader, none for a writer.
+fn readers_in(direction: Direction) -> u8
+    ensures { λ r. ⌜ r ≡ readersIn direction ⌝ }
+{
+    match direction {
+        Direction::Read => 1,
+        Direction::Write => 0,
+    }
 }

@@ -1,7 +1,7 @@
 -- What a wait queue means: its laws, and what each of its functions answers and leaves. Assumes nothing.
 use mathlib.Core.Bool.{Bool, true, false, cond, not, _&&_, _||_}
 use mathlib.Core.List.{List, [], _∷_, _++_}
-use Prim.Native.Nat.{ℕ, zero, suc}
+use Prim.Native.Nat.{ℕ, zero, suc, _+_}
 use lib.Dec.{eqb, ltb}
 use Rattle.std.specs.declared.option.Option.{Option}
 use Rattle.std.specs.declared.option.Option.the-variants.{Some, None}
@@ -21,6 +21,11 @@ isReader e = reads (e .direction)
 abbrev pub hasReader : List Entry → Bool
 hasReader [] = false
 hasReader (e ∷ es) = isReader e || hasReader es
+
+-- How many entries wait to read.
+abbrev pub readerCount : List Entry → ℕ
+readerCount [] = 0
+readerCount (e ∷ es) = cond (isReader e) 1 0 + readerCount es
 
 -- Some entry is of that task.
 abbrev pub hasTask : ℕ → List Entry → Bool

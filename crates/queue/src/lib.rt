@@ -4,7 +4,7 @@ ghost use mathlib.Core.Bool.{true};
 ghost use mathlib.Core.List.{List, []};
 ghost use lib.ListN.{length};
 ghost use Rattle.types.specs.declared.Entry.{Entry};
-ghost use Rattle.queue.specs.Queues.{tasksInRange, noneTwice, readersAreNeighbours, canJoin, join, first, rest, entryAt};
+ghost use Rattle.queue.specs.Queues.{tasksInRange, noneTwice, readersAreNeighbours, readerCount, canJoin, join, first, rest, entryAt};
 use types::Direction;
 use types::Entry;
 
@@ -34,6 +34,10 @@ pub trait WaitQueue: Sized {
 
     fn len(&self) -> u32
         ensures { λ r. ⌜ r ≡ length (entries (now (self .entry))) ⌝ };
+
+    // How many wait to read.
+    fn readers(&self) -> u32
+        ensures { λ r. ⌜ r ≡ readerCount (entries (now (self .entry))) ⌝ };
 
     fn entry_at(&self, place: u32) -> Option<Entry>
         ensures { λ r. ⌜ r ≡ entryAt place (entries (now (self .entry))) ⌝ };

@@ -6,6 +6,8 @@ use lib.Dec.{eqb, ltb, leb}
 use lib.ListN.{length}
 use Rattle.std.specs.declared.option.Option.{Option}
 use Rattle.std.specs.declared.option.Option.the-variants.{Some, None}
+use Rattle.std.specs.declared.result.Result.{Result}
+use Rattle.std.specs.declared.result.Result.the-variants.{Ok, Err}
 use Rattle.types.specs.declared.Direction.{Direction}
 use Rattle.types.specs.declared.Direction.the-variants.{Read, Write}
 use Rattle.types.specs.declared.Entry.{Entry}
@@ -147,11 +149,13 @@ claimed t d l Passing = None
 abbrev pub gone : Bool → ℕ → Word → Lock → Done
 gone owes t w l = cond owes (plain Owes (withPhase t Owing (withWord w l))) (plain LeftOut (withPhase t Out (withWord w l)))
 
--- A leaving reader lowers its count, and owes when all counts are now 0 and a waiters mark is on.
+-- A reader that has left owes when all counts are now 0 and a waiters mark is on.
+abbrev pub readerOwes : Word → Bool
+readerOwes w = allZero (w .counts) && (w .writersWait || w .readersWait)
+
+-- A leaving reader lowers its count.
 abbrev pub readerGone : Sizes → ℕ → Lock → Done
-readerGone z t l =
-    let w : Word = leaveReading z (groupOf z t) (l .word) in
-    gone (allZero (w .counts) && (w .writersWait || w .readersWait)) t w l
+readerGone z t l = gone (readerOwes (leaveReading z (groupOf z t) (l .word))) t (leaveReading z (groupOf z t) (l .word)) l
 
 -- A leaving writer owes unless leaving the word said yes.
 abbrev pub writerGone : ℕ → Lock → Done
@@ -200,3 +204,11 @@ step z verb t room l =
 abbrev pub after : Lock → Answer → Lock
 after l (refused r) = l
 after l (accepted d) = d .lock
+
+-- A making: the lock afterwards, or the refusal.
+abbrev pub make : Sizes → ℕ → ℕ → ℕ → Lock → Result Lock Refusal
+make z tasks spin room l =
+    cond (not (eqb (l .tasks) 0)) (Err AlreadyMade)
+    (cond (eqb tasks 0 || ltb 64 tasks) (Err TasksOutOfRange)
+    (cond (ltb 255 spin) (Err SpinOutOfRange)
+    (cond (eqb room 0) (Err ArchiveFull) (Ok (freshLock z tasks spin)))))

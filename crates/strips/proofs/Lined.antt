@@ -10,14 +10,27 @@ use Rattle.std.specs.declared.option.Option.the-variants.{Some, None}
 use Rattle.types.specs.declared.Direction.{Direction}
 use Rattle.types.specs.declared.Direction.the-variants.{Read, Write}
 use Rattle.types.specs.declared.Entry.{Entry}
-use Rattle.queue.specs.Queues.{hasReader, behindLastReader, placed, entryAt}
+use Rattle.queue.specs.Queues.{hasReader, readerCount, behindLastReader, placed, entryAt}
 use Rattle.queue.proofs.Members.{entryAt-near, entryAt-far}
+use Rattle.queue.proofs.Readers.{count-append}
 use Rattle.queue.proofs.Sizes.{none-past}
 use Rattle.strips.specs.Entries.{entryOf, entriesAs, lined}
 
 pub length-lined : (ws rs vs : List ℕ) → length (lined ws rs vs) ≡ length ws + length rs + length vs
 unfolding lined
 length-lined ws rs vs = simp (length-append, length-map) (omega arith)
+
+count-readers : (ts : List ℕ) → readerCount (entriesAs Read ts) ≡ length ts
+count-readers [] = refl
+count-readers (t ∷ ts) = let ih = count-readers ts in omega arith
+
+count-writers : (ts : List ℕ) → readerCount (entriesAs Write ts) ≡ 0
+count-writers [] = refl
+count-writers (t ∷ ts) = let ih = count-writers ts in omega arith
+
+pub count-lined : (ws rs vs : List ℕ) → readerCount (lined ws rs vs) ≡ length rs
+unfolding lined
+count-lined ws rs vs = simp (count-append, count-readers, count-writers) (omega arith)
 
 no-reader : (ts : List ℕ) → hasReader (entriesAs Write ts) ≡ false
 no-reader [] = refl

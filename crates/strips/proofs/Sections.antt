@@ -7,17 +7,20 @@ use lib.ListN.{length, getD}
 use Rattle.std.proofs.shelf.Lists.{length-push}
 use Rattle.std.specs.declared.option.Option.the-variants.{Some, None}
 use Rattle.types.specs.declared.Direction.the-variants.{Read, Write}
-use Rattle.queue.specs.Queues.{entryAt}
+use Rattle.queue.specs.Queues.{readerCount, entryAt}
 use Rattle.strips.specs.declared.strip.Strip.{Strip}
 use Rattle.strips.specs.declared.parts.Parts.{Parts}
 use Rattle.strips.specs.Tasks.{tasksOf}
 use Rattle.strips.specs.Entries.{entryOf, entriesAs, lined, entriesOf}
 use Rattle.strips.proofs.Content.{length-tasks}
-use Rattle.strips.proofs.Lined.{length-lined, in-ahead, past-ahead, in-readers, past-readers, past-all, entryAt-as}
+use Rattle.strips.proofs.Lined.{length-lined, count-lined, in-ahead, past-ahead, in-readers, past-readers, past-all, entryAt-as}
 
 pub length-parts : (p : Parts) → length (entriesOf p) ≡ p .ahead .len + p .readers .len + p .behind .len
 length-parts p =
     omega (arith, length-lined (tasksOf (p .ahead)) (tasksOf (p .readers)) (tasksOf (p .behind)), length-tasks (p .ahead), length-tasks (p .readers), length-tasks (p .behind))
+
+pub count-parts : (p : Parts) → readerCount (entriesOf p) ≡ p .readers .len
+count-parts p = count-lined (tasksOf (p .ahead)) (tasksOf (p .readers)) (tasksOf (p .behind)) ∙ length-tasks (p .readers)
 
 -- A strip that a task was pushed to is not empty.
 pub pushed-some : (s : Strip) (ts : List ℕ) (t : ℕ) → tasksOf s ≡ ts ++ (t ∷ []) → 0 < s .len

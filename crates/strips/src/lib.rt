@@ -60,6 +60,10 @@ pub impl WaitQueue for Strips as StripsQueue {
         self.parts.len()
     }
 
+    fn readers(&self) -> u32 {
+        self.parts.readers()
+    }
+
     fn entry_at(&self, place: u32) -> Option<Entry> {
         self.parts.entry_at(place)
     }

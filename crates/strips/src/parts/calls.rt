@@ -3,7 +3,7 @@ ghost use mathlib.Core.Path.{_≡_};
 ghost use mathlib.Core.List.{[]};
 ghost use Prim.Native.Nat.{_<_};
 ghost use lib.ListN.{length};
-ghost use Rattle.queue.specs.Queues.{placed, first, rest, entryAt};
+ghost use Rattle.queue.specs.Queues.{readerCount, placed, first, rest, entryAt};
 ghost use Rattle.strips.specs.Entries.{entriesOf};
 use crate::parts::Parts;
 use crate::strip::Strip;
@@ -67,6 +67,13 @@ impl Parts {
         ensures { λ r. ⌜ r ≡ length (entriesOf (now (self .entry))) ⌝ }
     {
         self.ahead.len as u32 + self.readers.len as u32 + self.behind.len as u32
+    }
+
+    // How many wait to read.
+    pub(crate) fn readers(&self) -> u32
+        ensures { λ r. ⌜ r ≡ readerCount (entriesOf (now (self .entry))) ⌝ }
+    {
+        self.readers.len as u32
     }
 
     // The entry at a place, counted from the first.

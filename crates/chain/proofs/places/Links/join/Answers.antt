@@ -1,6 +1,9 @@
 use Rattle.chain.specs.Walks.{Linked, remembered, goesBehind, held}
-use Rattle.chain.proofs.Links.{joinable, joined-queue, joined-agrees}
+use Rattle.chain.proofs.Links.{countable, joinable, joined-queue, joined-agrees}
 use Rattle.chain.proofs.places.Links.join.Needs as need
+
+pub remember-requires : need.remember-requires
+remember-requires c κs = countable (c .args .self .now) (c .args .task) (c .args .direction) (c .pre .laws) (c .pre .agrees) (c .pre .can)
 
 pub link-requires : need.link-requires
 link-requires c κs =

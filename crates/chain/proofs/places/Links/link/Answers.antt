@@ -13,7 +13,7 @@ returns c =
     let behind = c .args .behind in
     let task = c .args .task in
     let direction = c .args .direction in
-    let Done : Links → Type 0 = λ m. Linked l (record { places = m .places; head = m .head; tail = m .tail; «last_reader» = m .«last_reader»; len = m .len + 1 }) behind task direction in
+    let Done : Links → Type 0 = λ m. Linked l (record { places = m .places; head = m .head; tail = m .tail; «last_reader» = m .«last_reader»; readers = m .readers; len = m .len + 1 }) behind task direction in
     elim (c .if-self-eq0 .came) [
       | then-self-eq0 w ↦ subst Done (sym (w .self-is)) (linked-first l behind task direction (c .pre) _ refl refl (w .if-self-eq0 .taken))
       | else-self-eq0 w ↦ subst Done (sym (w .self-is)) (linked-behind l behind task direction (c .pre) (omega (arith, w .if-self-eq0 .left)) _ _ refl refl refl refl refl refl)

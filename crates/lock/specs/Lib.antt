@@ -1,0 +1,4 @@
+pub mod Keys
+pub mod Meaning
+pub mod Taken
+pub mod Answers
