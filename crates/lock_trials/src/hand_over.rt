@@ -59,39 +59,55 @@ const READER: Entry = Entry {
 };
 
 // The marks and the queue at each stage.
+fn marks_at_each_stage<W: LockWord + Drop, Q: WaitQueue + Drop>(
+    lock: &mut Lock<W, Q>,
+    notices: &mut Ring<Entry>,
+    archive: &mut Ring<u32>,
+) -> Result<(), Fail> {
+    writer_with_two_behind(lock, notices, archive)?;
+    check(lock.is_locked() && lock.writers_wait() && lock.readers_wait())?;
+    check_eq(lock.queued(1), Some(READER))?;
+    hand_to(lock, 0, WRITER, notices, archive)?;
+    check(lock.is_locked() && !lock.writers_wait() && lock.readers_wait())?;
+    hand_to(lock, 1, READER, notices, archive)?;
+    check(!lock.is_locked() && !lock.writers_wait() && !lock.readers_wait())?;
+    check_eq(lock.count(2 % W::group_count()), 1)?;
+    check_eq(lock.leave(2, archive), Ok(Outcome::Out))?;
+    check_eq(lock.count(2 % W::group_count()), 0)
+}
+
 fn marks<W: LockWord + Drop, Q: WaitQueue + Drop>() -> Result<(), Fail> {
     let mut places = [EntryBlank::blank(); 64];
     let mut notices = Ring::over(&mut places);
     let mut words = [0; 66];
     let mut archive = Ring::over(&mut words);
     let mut lock = Lock::<W, Q>::blank();
-    writer_with_two_behind(&mut lock, &mut notices, &mut archive)?;
-    check(lock.is_locked() && lock.writers_wait() && lock.readers_wait())?;
-    check_eq(lock.queued(1), Some(READER))?;
-    hand_to(&mut lock, 0, WRITER, &mut notices, &mut archive)?;
-    check(lock.is_locked() && !lock.writers_wait() && lock.readers_wait())?;
-    hand_to(&mut lock, 1, READER, &mut notices, &mut archive)?;
-    check(!lock.is_locked() && !lock.writers_wait() && !lock.readers_wait())?;
-    check_eq(lock.count(2 % W::group_count()), 1)?;
-    check_eq(lock.leave(2, &mut archive), Ok(Outcome::Out))?;
-    check_eq(lock.count(2 % W::group_count()), 0)
+    marks_at_each_stage(&mut lock, &mut notices, &mut archive)
 }
 
 // The bits of the packed word at each stage.
+fn bits_at_each_stage<Q: WaitQueue + Drop>(
+    lock: &mut Lock<Packed, Q>,
+    notices: &mut Ring<Entry>,
+    archive: &mut Ring<u32>,
+) -> Result<(), Fail> {
+    writer_with_two_behind(lock, notices, archive)?;
+    check_eq(lock.word().bits(), 0xe000_0000)?;
+    hand_to(lock, 0, WRITER, notices, archive)?;
+    check_eq(lock.word().bits(), 0xa000_0000)?;
+    hand_to(lock, 1, READER, notices, archive)?;
+    check_eq(lock.word().bits(), 0x0000_0001)?;
+    check_eq(lock.leave(2, archive), Ok(Outcome::Out))?;
+    check_eq(lock.word().bits(), 0)
+}
+
 fn bits<Q: WaitQueue + Drop>() -> Result<(), Fail> {
     let mut places = [EntryBlank::blank(); 64];
     let mut notices = Ring::over(&mut places);
     let mut words = [0; 66];
     let mut archive = Ring::over(&mut words);
     let mut lock = Lock::<Packed, Q>::blank();
-    writer_with_two_behind(&mut lock, &mut notices, &mut archive)?;
-    check_eq(lock.word().bits(), 0xe000_0000)?;
-    hand_to(&mut lock, 0, WRITER, &mut notices, &mut archive)?;
-    check_eq(lock.word().bits(), 0xa000_0000)?;
-    hand_to(&mut lock, 1, READER, &mut notices, &mut archive)?;
-    check_eq(lock.word().bits(), 0x0000_0001)?;
-    check_eq(lock.leave(2, &mut archive), Ok(Outcome::Out))?;
-    check_eq(lock.word().bits(), 0)
+    bits_at_each_stage(&mut lock, &mut notices, &mut archive)
 }
 
 #[test]

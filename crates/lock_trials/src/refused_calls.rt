@@ -18,6 +18,7 @@ use rules::PhasePartialEq;
 use std::test::*;
 use strips::StripsQueue;
 use types::Direction;
+use types::Entry;
 use types::Refusal;
 use types::RefusalDebug;
 use word::LockWord;
@@ -89,26 +90,29 @@ fn moving_while_out<W: LockWord + Drop, Q: WaitQueue + Drop>() -> Result<(), Fai
     check_eq(lock.phase(0), Some(Phase::Out))
 }
 
+// Task 0 wrote and is to pass the lock on to two readers, with one place for their notices.
+fn pass_to_two_readers<W: LockWord + Drop, Q: WaitQueue + Drop>(
+    lock: &mut Lock<W, Q>,
+    notices: &mut Ring<Entry>,
+    archive: &mut Ring<u32>,
+) -> Result<(), Fail> {
+    lock.make(3, 0, archive)?;
+    enter(lock, 0, Direction::Write, notices, archive)?;
+    wait(lock, 1, Direction::Read, notices, archive)?;
+    wait(lock, 2, Direction::Read, notices, archive)?;
+    leave_to_pass(lock, 0, notices, archive)?;
+    no_move(lock, 0, notices, archive, Refusal::NoticesFull)?;
+    check_eq(lock.phase(0), Some(Phase::Passing))?;
+    check_eq(lock.queue_len(), 2)
+}
+
 fn two_readers_and_one_place<W: LockWord + Drop, Q: WaitQueue + Drop>() -> Result<(), Fail> {
     let mut places = [EntryBlank::blank(); 1];
     let mut notices = Ring::over(&mut places);
     let mut words = [0; 66];
     let mut archive = Ring::over(&mut words);
     let mut lock = Lock::<W, Q>::blank();
-    lock.make(3, 0, &mut archive)?;
-    enter(&mut lock, 0, Direction::Write, &mut notices, &mut archive)?;
-    wait(&mut lock, 1, Direction::Read, &mut notices, &mut archive)?;
-    wait(&mut lock, 2, Direction::Read, &mut notices, &mut archive)?;
-    leave_to_pass(&mut lock, 0, &mut notices, &mut archive)?;
-    no_move(
-        &mut lock,
-        0,
-        &mut notices,
-        &mut archive,
-        Refusal::NoticesFull,
-    )?;
-    check_eq(lock.phase(0), Some(Phase::Passing))?;
-    check_eq(lock.queue_len(), 2)
+    pass_to_two_readers(&mut lock, &mut notices, &mut archive)
 }
 
 fn leaving_while_out<W: LockWord + Drop, Q: WaitQueue + Drop>() -> Result<(), Fail> {
