@@ -1,5 +1,7 @@
 // A wait queue as a chain of places, one for each task, that remembers its last reader and counts its readers: a reader
 // joins without a search.
+#![tactic(auto)]
+
 ghost use Rattle.chain.specs.Walks.{Laws, Agrees, held};
 ghost use Rattle.std.proofs.Common.{rules, arith};
 

@@ -1,4 +1,6 @@
 // Compares the library with a second implementation that was written on its own from docs/, on inputs that are drawn by a fixed generator.
+#![tactic(auto)]
+
 use anyhow::anyhow;
 use chain::Chain;
 use grouped::Grouped;

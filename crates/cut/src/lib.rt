@@ -1,4 +1,6 @@
 // The lines of an input, cut off one by one. Nothing allocates.
+#![tactic(auto)]
+
 ghost use Rattle.std.specs.Prelude.{◌≡◌, ◌<◌, ◌≤◌, [], ◌∷◌, length, IfSome, MatchOption};
 ghost use Rattle.cut.specs.Lines.{lines_of, line_length, first_line, behind_first};
 

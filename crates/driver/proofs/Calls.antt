@@ -15,9 +15,9 @@ use Rattle.packed.specs.Unpacked.{packed_sizes}
 use Rattle.rules.specs.declared.Phase.{Phase}
 use Rattle.rules.specs.declared.Phase.TheVariants.{Out, Claiming, AtQueueLock, Queueing, Queued, Holding, Owing, Passing}
 use Rattle.rules.specs.Locks.{Lock, phase_of}
-use Rattle.rules.specs.Steps.{Done, Room, Answer, refused, accepted, step, after, after_making, effect, unfit, recorded, gone, reader_gone, writer_gone, leaving, claimed}
+use Rattle.rules.specs.Steps.{Done, Room, Answer, refused, accepted, step, after, effect, unfit, recorded, gone, reader_gone, writer_gone, leaving, claimed}
 use Rattle.rules.specs.Records.{words_of, notices_of, making_words}
-use Rattle.lock.specs.Answers.{claim_verb, result_of, archive_room, ring_room, Called, Made}
+use Rattle.lock.specs.Answers.{claim_verb, result_of, archive_room, ring_room, after_making, Called, Made}
 use Rattle.driver.specs.Lines.{Setup, setup, call_answer, make_answer, called_of, built_of, setup_called, setup_made}
 
 -- no task is taken

@@ -11,9 +11,9 @@ use Rattle.lines.specs.declared.commands.Command.TheVariants.{Make, Call as Call
 use Rattle.lines.specs.declared.commands.Fault.{Fault}
 use Rattle.lines.specs.Grammar.{answer}
 use Rattle.rules.specs.Locks.{Lock}
-use Rattle.rules.specs.Steps.{Answer, step, after, make, after_making}
+use Rattle.rules.specs.Steps.{Answer, step, after, make}
 use Rattle.rules.specs.Records.{words_of, notices_of, making_words}
-use Rattle.lock.specs.Answers.{result_of, made_of, ring_room}
+use Rattle.lock.specs.Answers.{result_of, made_of, after_making, ring_room}
 use Rattle.driver.specs.declared.trouble.Trouble.{Trouble}
 use Rattle.driver.specs.declared.trouble.Trouble.TheVariants.{Call, Line}
 

@@ -1,4 +1,6 @@
 // What one line of the drill's input does to a lock and its two rings. Nothing allocates.
+#![tactic(auto)]
+
 ghost use Rattle.std.specs.Prelude.{◌≡◌, Err};
 ghost use Rattle.types.specs.declared.Refusal.{Refusal};
 ghost use Rattle.ring.specs.HeldOf.{lent_name};

@@ -7,7 +7,7 @@ use Rattle.types.specs.declared.Refusal.{Refusal}
 use Rattle.word.specs.Words.{Word}
 use Rattle.packed.specs.Unpacked.{packed_sizes, unpacked}
 use Rattle.rules.specs.Locks.{Lock, fresh_lock, blank_lock}
-use Rattle.rules.specs.Steps.{Answer, refused, accepted, Room, ample, step, make}
+use Rattle.rules.specs.Steps.{Answer, refused, accepted, Room, step, make}
 use Rattle.rules.specs.Runs.{Call, lock_after}
 use Rattle.rules.specs.Records.{words_of}
 
@@ -25,6 +25,10 @@ refused_with (accepted d) = 0
 abbrev pub outcome_of : Answer → ℕ
 outcome_of (refused r) = 10
 outcome_of (accepted d) = outcome_number d.outcome
+
+-- Ample room in both rings.
+abbrev pub ample : Room
+ample = record { notices = 64; archive = 66 }
 
 abbrev pub call : Verb → ℕ → Call
 call verb task = record { verb = verb; task = task; room = ample }

@@ -1,4 +1,6 @@
 // The grouped word: three marks beside eight reader counters, so that readers of different groups touch different counters.
+#![tactic(auto)]
+
 ghost use Rattle.std.specs.Prelude.{◌≡◌, ℕ, ◌≤◌, length, slice_index};
 ghost use Rattle.word.specs.Words.{all_zero};
 ghost use Rattle.grouped.specs.Groups.{grouped_sizes, grouped_word};

@@ -1,4 +1,6 @@
 // One line of the drill's input: the command that it gives, or why and where it is refused. Nothing allocates.
+#![tactic(auto)]
+
 ghost use Rattle.std.specs.Prelude.{◌≡◌, ◌<◌, ◌≤◌, length, IfOk};
 ghost use Rattle.lines.specs.Grammar.{run_length, well_formed, value_of, answer};
 ghost use Rattle.lines.specs.Scan.{letter_verb, TokenAt, verb_answer, AllDigits, number_answer, end_answer};

@@ -14,7 +14,7 @@ use Rattle.rules.specs.declared.Phase.{Phase}
 use Rattle.rules.specs.declared.Phase.TheVariants.{Out, Claiming, AtQueueLock, Queueing, Queued, Holding, Owing, Passing}
 use Rattle.rules.specs.declared.Row.{Row}
 use Rattle.rules.specs.Locks.{Lock, row_of, phase_of}
-use Rattle.rules.specs.Steps.{Answer, refused, accepted, Room, step, after, make, after_making}
+use Rattle.rules.specs.Steps.{Answer, refused, accepted, Room, step, after, make}
 use Rattle.rules.specs.Records.{words_of, making_words}
 
 -- The verb of a claim.
@@ -31,6 +31,11 @@ result_of (accepted d) = Ok d.outcome
 abbrev pub made_of : Result Lock Refusal → Result (Unit {0}) Refusal
 made_of (Ok l) = Ok tt
 made_of (Err r) = Err r
+
+-- The lock after a making.
+abbrev pub after_making : Lock → Result Lock Refusal → Lock
+after_making l (Ok l') = l'
+after_making l (Err r) = l
 
 -- The free places where no notices are handed over.
 abbrev pub archive_room : Held ℕ → Room

@@ -1,4 +1,6 @@
 // The lock: a reader-writer lock above any lock word and any wait queue, driven one step at a time.
+#![tactic(auto)]
+
 ghost use Rattle.std.specs.Prelude.{◌≡◌, ◌≤◌, length};
 ghost use Rattle.lock.specs.Keys.{Keyed};
 

@@ -7,13 +7,11 @@ fn blank_answers<W: LockWord + Drop, Q: WaitQueue + Drop>(rt: &impl Abort) {
     let lock = Lock::<W, Q>::blank();
     assert_eq!(rt; lock.phase(0), None);
     assert_eq!(rt; lock.phase(u32::MAX), None);
-    assert!(rt;
-        !lock.word().is_locked() && !lock.word().writers_wait() && !lock.word().readers_wait()
-    );
-    assert_eq!(rt; lock.word().count(0), 0);
-    assert_eq!(rt; lock.word().count(u32::MAX), 0);
-    assert_eq!(rt; lock.queue().len(), 0);
-    assert_eq!(rt; lock.queue().entry_at(0), None);
+    assert!(rt; !lock.is_locked() && !lock.writers_wait() && !lock.readers_wait());
+    assert_eq!(rt; lock.count(0), 0);
+    assert_eq!(rt; lock.count(u32::MAX), 0);
+    assert_eq!(rt; lock.queue_len(), 0);
+    assert_eq!(rt; lock.queued(0), None);
 }
 
 #[test]

@@ -57,21 +57,15 @@ fn marks_at_each_stage<W: LockWord + Drop, Q: WaitQueue + Drop>(
     archive: &mut Ring<u32>,
 ) -> Result<(), Fail> {
     writer_with_two_behind(rt, lock, notices, archive)?;
-    assert!(rt;
-        lock.word().is_locked() && lock.word().writers_wait() && lock.word().readers_wait()
-    );
-    assert_eq!(rt; lock.queue().entry_at(1), Some(READER));
+    assert!(rt; lock.is_locked() && lock.writers_wait() && lock.readers_wait());
+    assert_eq!(rt; lock.queued(1), Some(READER));
     hand_to(rt, lock, 0, WRITER, notices, archive);
-    assert!(rt;
-        lock.word().is_locked() && !lock.word().writers_wait() && lock.word().readers_wait()
-    );
+    assert!(rt; lock.is_locked() && !lock.writers_wait() && lock.readers_wait());
     hand_to(rt, lock, 1, READER, notices, archive);
-    assert!(rt;
-        !lock.word().is_locked() && !lock.word().writers_wait() && !lock.word().readers_wait()
-    );
-    assert_eq!(rt; lock.word().count(2 % W::group_count()), 1);
+    assert!(rt; !lock.is_locked() && !lock.writers_wait() && !lock.readers_wait());
+    assert_eq!(rt; lock.count(2 % W::group_count()), 1);
     assert_eq!(rt; lock.leave(2, archive), Ok(Outcome::Out));
-    assert_eq!(rt; lock.word().count(2 % W::group_count()), 0);
+    assert_eq!(rt; lock.count(2 % W::group_count()), 0);
     Ok(())
 }
 

@@ -1,4 +1,6 @@
 // Each refusal of the lock and its size, and on every pair of a lock word and a wait queue a blank lock and a hand-over.
+#![tactic(auto)]
+
 #[cfg(test)]
 mod blanks;
 #[cfg(test)]

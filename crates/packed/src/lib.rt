@@ -1,4 +1,6 @@
 // The packed word: three marks and one reader count in 32 bits.
+#![tactic(auto)]
+
 ghost use Rattle.std.specs.Prelude.{◌≡◌, Bool, cond, ◌%◌, ◌^◌};
 ghost use Rattle.packed.specs.Unpacked.{packed_sizes, unpacked};
 ghost use Rattle.std.proofs.Common.{arith, rules};

@@ -1,5 +1,7 @@
 // A second implementation of the rules, the archive words, the drill and the reading of archives: plain lists and plain numbers, no proof
 // but that it is safe and returns. It shares nothing with the library, which it is compared with.
+#![tactic(auto)]
+
 mod drilling;
 mod letters;
 mod list;

@@ -1,4 +1,6 @@
 // The wait queue: a list of entries, each a task and its direction. A kind of queue is proved against this contract once.
+#![tactic(auto)]
+
 ghost use Rattle.std.specs.Prelude.{◌≡◌, true, List, [], length};
 ghost use Rattle.types.specs.declared.Entry.{Entry};
 ghost use Rattle.queue.specs.Queues.{tasks_in_range, no_task_twice, readers_are_neighbours, reader_count, can_join, join, first, rest, entry_at};

@@ -1,4 +1,6 @@
 // The rules of the lock: what each call answers and leaves, and the laws of every run.
+#![tactic(auto)]
+
 ghost use Rattle.rules.specs.Runs.{MadeLocksAreSafe};
 
 use types::Direction;

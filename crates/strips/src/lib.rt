@@ -1,4 +1,6 @@
 // A wait queue as three strips of task numbers and a flag for each task. No call takes longer in a longer queue.
+#![tactic(auto)]
+
 ghost use Rattle.std.specs.Prelude.{◌≡◌, true, length};
 ghost use Rattle.queue.specs.Queues.{tasks_in_range, no_task_twice, readers_are_neighbours};
 ghost use Rattle.strips.specs.Entries.{entries_of, Flagged};

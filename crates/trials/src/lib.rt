@@ -1,4 +1,6 @@
 // Examples from the rules and bad input of each kind, run on every part.
+#![tactic(auto)]
+
 #[cfg(test)]
 mod archives;
 #[cfg(test)]

@@ -1,4 +1,6 @@
 // The plain values that every layer speaks of: directions, entries, verbs, outcomes and refusals, each with its number.
+#![tactic(auto)]
+
 ghost use Rattle.std.specs.Prelude.{◌≡◌};
 ghost use Rattle.types.specs.Numbers.{direction_number, verb_number, outcome_number, outcome_value, refusal_number};
 

@@ -1,5 +1,7 @@
 // The lock word: three marks and one reader count for each group of tasks. A kind of word is proved against this contract
 // once, and no code above it depends on how the kind is laid out.
+#![tactic(auto)]
+
 ghost use Rattle.std.specs.Prelude.{◌≡◌, ℕ, ◌≤◌, length};
 ghost use Rattle.word.specs.Words.{Sizes, Word, count, tasks_in_group, fresh_word, can_enter_to_read, enter_to_read, can_enter_to_write, enter_to_write, can_leave_reading, leave_reading, can_leave_writing, leave_writing, mark_waiters, can_pass_to_writer, pass_to_writer, pass_to_readers, can_admit_reader, admit_reader};
 

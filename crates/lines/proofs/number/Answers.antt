@@ -10,8 +10,8 @@ returns-then-place-line c = grind (arith, nat_tests, get_or_past c.args.line.now
 
 pub value-requires : goal.value-requires
 value-requires c =
-    let told = subst (TokenAt c.args.line.now (c.args.place + 1)) c.in-Number.is c.token-at-next.ensures.token in
+    let told = subst (TokenAt c.args.line.now (c.args.place + 1)) c.in-Number.is c.token_at-next.ensures.token in
     record {
-      few = (formed c.in-Number.digits.now (sym c.if-well-formed.ensures)).few;
+      few = (formed c.in-Number.digits.now (sym c.if-well_formed.ensures)).few;
       all = subst AllDigits (sym told.1) (number_digits c.args.line.now (c.args.place + 1));
     }

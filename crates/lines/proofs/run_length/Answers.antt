@@ -7,13 +7,13 @@ use Rattle.lines.proofs.run_length.Goals as goal
 pub loop-n-preserved : goal.loop-n-preserved
 unfolding run_length
 loop-n-preserved c =
-    let more = prefix_len-drop_yes is_ascii_digit c.args.bytes.now c.loop-n.n 0 (omega arith) (sym c.if-is-ascii-digit.ensures.value) in
+    let more = prefix_len-drop_yes is_ascii_digit c.args.bytes.now c.loop-n.n 0 (omega arith) (sym c.if-is_ascii_digit.ensures.value) in
     (omega arith, omega arith)
 
-pub returns-else-is-ascii-digit : goal.returns-else-is-ascii-digit
+pub returns-else-is_ascii_digit : goal.returns-else-is_ascii_digit
 unfolding run_length
-returns-else-is-ascii-digit c =
-    let none = prefix_len-drop_no is_ascii_digit c.args.bytes.now c.loop-n.n 0 (omega arith) (sym c.if-is-ascii-digit.ensures.value) in
+returns-else-is_ascii_digit c =
+    let none = prefix_len-drop_no is_ascii_digit c.args.bytes.now c.loop-n.n 0 (omega arith) (sym c.if-is_ascii_digit.ensures.value) in
     record { value = omega arith; within = omega arith }
 
 pub returns-after-loop-n : goal.returns-after-loop-n

@@ -9,12 +9,12 @@ pub loop-digit-init : goal.loop-digit-init
 unfolding value_of
 loop-digit-init c = refl
 
-pub overflow-mul-value : goal.overflow-mul-value
-overflow-mul-value c =
+pub overflow_mul-value : goal.overflow_mul-value
+overflow_mul-value c =
     omega (arith, c.loop-digit.invariant, value_before c.args.digits.now c.loop-digit.digit-index c.requires.all c.requires.few c.loop-digit-test.true)
 
-pub overflow-add-value : goal.overflow-add-value
-overflow-add-value c =
+pub overflow_add-value : goal.overflow_add-value
+overflow_add-value c =
     omega (arith, c.loop-digit.invariant, value_before c.args.digits.now c.loop-digit.digit-index c.requires.all c.requires.few c.loop-digit-test.true, c.requires.all c.loop-digit.digit-index c.loop-digit-test.true)
 
 pub loop-digit-preserved : goal.loop-digit-preserved

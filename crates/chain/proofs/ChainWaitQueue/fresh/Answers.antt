@@ -3,5 +3,5 @@ use Rattle.std.proofs.lemmas.List.{get_or-replicate}
 use Rattle.chain.specs.declared.places.Place.{Place}
 use Rattle.chain.proofs.ChainWaitQueue.fresh.Goals as goal
 
-pub invariant-of-result : goal.invariant-of-result
-invariant-of-result c = ((refl, refl, refl), ((refl, λ task h. ap (λ (p : Place). p.present) (get_or-replicate 64 task _ _ h), refl, refl, refl), tt))
+pub invariant_of-result : goal.invariant_of-result
+invariant_of-result c = record { laws = (refl, refl, refl); agrees = (refl, λ task h. ap (λ (p : Place). p.present) (get_or-replicate 64 task _ _ h), refl, refl, refl) }

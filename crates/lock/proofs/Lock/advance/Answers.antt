@@ -9,20 +9,20 @@ use Rattle.lock.specs.Answers.{ring_room}
 use Rattle.lock.proofs.Judged.{called_refused, called_broken, not_found, move_full}
 use Rattle.lock.proofs.Lock.advance.Goals as goal
 
-pub returns-in-err-row : goal.returns-in-err-row
-returns-in-err-row g c =
+pub returns-in_err-row : goal.returns-in_err-row
+returns-in_err-row g c =
     let z = g.W.LockWord.sizes in
     let t = c.args.task in
     let l = lock_of g.W.LockWord.meaning g.Q.WaitQueue.entries c.args.self.now.state in
     let n = held_of c.args.notices.now in
     let h = held_of c.args.archive.now in
-    let e = c.in-err-row.field-0.0 in
-    let is = not_found z Move t (ring_room n h) l e c.in-err-row.ensures in
-    let p = err_from_is_err_and c.from-residual.result c.from-residual.ensures.1 in
+    let e = c.in_err-row.field-0.0 in
+    let is = not_found z Move t (ring_room n h) l e c.in_err-row.ensures in
+    let p = err_from_is_err_and c.from_residual.result c.from_residual.ensures.1 in
     record {
-      notices-lent = refl;
+      notices_lent = refl;
       lent = refl;
-      called = called_broken z Move t (ring_room n h) l h e c.from-residual.result c.in-err-row.ensures (p.1 ∙ ap Err p.2);
+      called = called_broken z Move t (ring_room n h) l h e c.from_residual.result c.in_err-row.ensures (p.1 ∙ ap Err p.2);
       notices = ap (λ a. put_all (notices_of a) n) (sym is);
       same = λ r e. (refl, refl, refl);
     }
@@ -34,9 +34,9 @@ returns-then-free-lt2 g c =
     let l = lock_of g.W.LockWord.meaning g.Q.WaitQueue.entries c.args.self.now.state in
     let n = held_of c.args.notices.now in
     let h = held_of c.args.archive.now in
-    let is = move_full z t (ring_room n h) l _ c.in-ok-row.ensures (search rules) (search rules) in
+    let is = move_full z t (ring_room n h) l _ c.in_ok-row.ensures (search rules) (search rules) in
     record {
-      notices-lent = refl;
+      notices_lent = refl;
       lent = refl;
       called = called_refused z Move t (ring_room n h) l h _ is;
       notices = ap (λ a. put_all (notices_of a) n) (sym is);

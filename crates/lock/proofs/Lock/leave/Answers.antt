@@ -12,6 +12,6 @@ returns-then-free-lt2 g c =
     let h = held_of c.args.archive.now in
     record {
       lent = refl;
-      called = called_refused z _ c.args.task (archive_room h) l h _ (leave_full z c.args.task (archive_room h) l _ c.in-Holding.direction c.in-ok-row.ensures (search rules) (search rules));
+      called = called_refused z _ c.args.task (archive_room h) l h _ (leave_full z c.args.task (archive_room h) l _ c.in-Holding.direction c.in_ok-row.ensures (search rules) (search rules));
       same = λ r e. (refl, refl);
     }

@@ -11,12 +11,18 @@ place-requires c =
     let q = c.args.self.now in
     room_to_join c.args.task (entries_of q.parts) q.in_range q.none_twice (may_join q c.args.task c.if-task-ge64.false c.if-self-task.false)
 
-pub invariant-of-self : goal.invariant-of-self
-invariant-of-self c =
+pub invariant_of-self : goal.invariant_of-self
+invariant_of-self c =
     let q = c.args.self.now in
     let es = entries_of q.parts in
     let can = may_join q c.args.task c.if-task-ge64.false c.if-self-task.false in
     let after = sym c.place.ensures in
     let laws = subst Lawful after (placed_lawful c.args.task c.args.direction es can (lawful q)) in
     let told = subst (Flagged (set q.present c.args.task true)) after (flagged_placed q.present c.args.task c.args.direction es q.flags c.if-task-ge64.false q.flagged) in
-    (length-set q.present _ _ ∙ q.flags, (laws.in_range, (laws.none_twice, (laws.neighbours, (told, tt)))))
+    record {
+      flags = length-set q.present _ _ ∙ q.flags;
+      in_range = laws.in_range;
+      none_twice = laws.none_twice;
+      neighbours = laws.neighbours;
+      flagged = told;
+    }

@@ -7,14 +7,20 @@ use Rattle.strips.specs.Entries.{entries_of, Flagged}
 use Rattle.strips.proofs.StripsWaitQueue.take_first.Goals as goal
 use Rattle.strips.proofs.Flags.{lawful, flagged_rest}
 
-pub invariant-of-self : goal.invariant-of-self
-invariant-of-self c =
+pub invariant_of-self : goal.invariant_of-self
+invariant_of-self c =
     let q = c.args.self.now in
     let es = entries_of q.parts in
     let e = c.in-Some.entry in
-    let whole = first_and_rest e es (sym c.in-Some.is ∙ c.take-first-first.ensures.answer) in
-    let after = sym c.take-first-first.ensures.queue in
+    let whole = first_and_rest e es (sym c.in-Some.is ∙ c.take_first-first.ensures.answer) in
+    let after = sym c.take_first-first.ensures.queue in
     let laws = subst Lawful after (rest_lawful es (lawful q)) in
     let apart : no_task_twice (e ∷ rest es) ≡ true = sym (ap no_task_twice whole) ∙ q.none_twice in
     let told = subst (Flagged (set q.present e.task false)) after (flagged_rest q.present e (rest es) q.flags apart (subst (Flagged q.present) whole q.flagged)) in
-    (length-set q.present _ _ ∙ q.flags, (laws.in_range, (laws.none_twice, (laws.neighbours, (told, tt)))))
+    record {
+      flags = length-set q.present _ _ ∙ q.flags;
+      in_range = laws.in_range;
+      none_twice = laws.none_twice;
+      neighbours = laws.neighbours;
+      flagged = told;
+    }

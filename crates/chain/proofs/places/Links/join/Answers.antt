@@ -7,7 +7,7 @@ remember-requires c = countable c.args.self.now c.args.task c.args.direction c.r
 
 pub link-requires : goal.link-requires
 link-requires c =
-    rw (c.remember.ensures, c.goes-behind-behind.ensures) (joinable c.args.self.now c.args.task c.args.direction c.requires.laws c.requires.agrees c.requires.can)
+    rw (c.remember.ensures, c.goes_behind-behind.ensures) (joinable c.args.self.now c.args.task c.args.direction c.requires.laws c.requires.agrees c.requires.can)
 
 pub returns : goal.returns
 returns c =
@@ -15,7 +15,7 @@ returns c =
     let task = c.args.task in
     let direction = c.args.direction in
     let linked : Linked (remembered (goes_behind direction (held l)) task direction l) c.link.new.self (goes_behind direction (held l)) task direction =
-    rw (c.remember.ensures, c.goes-behind-behind.ensures) at c.link.ensures in
+    rw (c.remember.ensures, c.goes_behind-behind.ensures) at c.link.ensures in
     record {
       queue = joined_queue l task direction c.requires.laws c.requires.agrees c.requires.can c.link.new.self linked;
       agrees = joined_agrees l task direction c.requires.laws c.requires.agrees c.requires.can c.link.new.self linked;

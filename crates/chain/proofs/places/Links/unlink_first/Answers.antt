@@ -13,11 +13,11 @@ bounds-self-task c = let l = c.args.self.now in head_small l.places l.len l.head
 pub bounds-self-task-2 : goal.bounds-self-task-2
 bounds-self-task-2 c = let l = c.args.self.now in head_small l.places l.len l.head c.requires.some c.requires.laws.0
 
-pub overflow-sub-self-2 : goal.overflow-sub-self-2
-overflow-sub-self-2 c =
+pub overflow_sub-self-2 : goal.overflow_sub-self-2
+overflow_sub-self-2 c =
     let l = c.args.self.now in
     let inside = head_small l.places l.len l.head c.requires.some c.requires.laws.0 in
-    omega (arith, c.readers_in_lem.ensures, dropped_some l c.requires.laws c.requires.agrees c.requires.some inside)
+    omega (arith, c.readers_in.ensures, dropped_some l c.requires.laws c.requires.agrees c.requires.some inside)
 
 pub returns : goal.returns
 returns c =
@@ -35,6 +35,6 @@ returns c =
         λ t small. dropped_flags l laws agrees some inside left refl t small ∙ sym (ap (has_task t) queue),
         c.except-self.ensures ∙ sym (ap last_task queue ∙ dropped_tail l laws agrees some inside),
         c.except-self-2.ensures ∙ sym (ap last_reader_of queue ∙ dropped_reader l laws agrees some inside),
-        omega (arith, c.readers_in_lem.ensures, ap reader_count queue, dropped_count l laws agrees some inside),
+        omega (arith, c.readers_in.ensures, ap reader_count queue, dropped_count l laws agrees some inside),
       );
     }

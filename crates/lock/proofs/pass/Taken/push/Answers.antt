@@ -7,10 +7,10 @@ use Rattle.lock.proofs.pass.Taken.push.Goals as goal
 pub bounds-self-self : goal.bounds-self-self
 bounds-self-self c = omega (arith, length_taken c.args.self.now)
 
-pub invariant-of-self : goal.invariant-of-self
-invariant-of-self c =
+pub invariant_of-self : goal.invariant_of-self
+invariant_of-self c =
     let t = c.args.self.now in
-    (length-set t.entries _ _ ∙ t.full, (omega (arith, length_taken t), tt))
+    record { full = length-set t.entries _ _ ∙ t.full; few = omega (arith, length_taken t) }
 
 pub returns : goal.returns
 unfolding taken_of

@@ -37,11 +37,11 @@ loop-entry-preserved g c =
     let found = reader_first e l.queue (sym c.first_reader.ensures ∙ c.in-Some.is) in
     let small = first_small e l.queue found.0 (g.met.Q.WaitQueue.in_range s.queue) in
     let within : e.task < length s.rows = omega (arith, c.loop-entry.invariant.3) in
-    let admits = c.admit-reader-admitted.ensures.word ∙ ap (λ n. admit_reader z (e.task % n) l.word) c.group-count.ensures in
+    let admits = c.admit_reader-admitted.ensures.word ∙ ap (λ n. admit_reader z (e.task % n) l.word) c.group_count.ensures in
     let row : Row = record { phase = Holding e.direction; attempts = (get_or s.rows e.task out_row).attempts } in
-    let goes = c.take-first-first.ensures.queue in (
-      one_by_one z e l (meaning c.admit-reader-admitted.new.self) (entries c.take-first-first.new.self) admits goes found.0 found.1 ∙ c.loop-entry.invariant.0,
-      ap (λ es. es ++ front_readers (entries c.take-first-first.new.self)) c.push.ensures ∙ ap (λ q. (taken_of c.loop-entry.taken ++ (e ∷ [])) ++ front_readers q) goes ∙ one_more (taken_of c.loop-entry.taken) e l.queue found.0 found.1 ∙ c.loop-entry.invariant.1,
+    let goes = c.take_first-first.ensures.queue in (
+      one_by_one z e l (meaning c.admit_reader-admitted.new.self) (entries c.take_first-first.new.self) admits goes found.0 found.1 ∙ c.loop-entry.invariant.0,
+      ap (λ es. es ++ front_readers (entries c.take_first-first.new.self)) c.push.ensures ∙ ap (λ q. (taken_of c.loop-entry.taken ++ (e ∷ [])) ++ front_readers q) goes ∙ one_more (taken_of c.loop-entry.taken) e l.queue found.0 found.1 ∙ c.loop-entry.invariant.1,
       still_none s.rows e.task row within c.loop-entry.invariant.2 refl,
       length-set s.rows e.task row ∙ c.loop-entry.invariant.3,
       c.loop-entry.invariant.4,
@@ -52,7 +52,7 @@ returns g c =
     let meant = lock_of g.W.LockWord.meaning g.Q.WaitQueue.entries in
     let z = g.W.LockWord.sizes in
     let l = meant c.loop-entry.self in
-    let none = sym c.first_reader.ensures ∙ c.in-default.is in
+    let none = sym c.first_reader.ensures ∙ c.in_default.is in
     record {
       taken = sym (append-nil (taken_of c.loop-entry.taken)) ∙ ap (λ es. taken_of c.loop-entry.taken ++ es) (sym (front_none l.queue none).0) ∙ c.loop-entry.invariant.1;
       lock = sym (none_left z l none) ∙ c.loop-entry.invariant.0;

@@ -22,14 +22,14 @@ returns g c =
     let small = first_small e l.queue first.0 (g.met.Q.WaitQueue.in_range s.queue) in
     let within : e.task < length s.rows = omega (arith, c.requires.full) in
     let row : Row = record { phase = Holding e.direction; attempts = (get_or s.rows e.task out_row).attempts } in
-    let goes = c.take-first-first.ensures.queue in
-    let marks = c.pass-to-writer-passed.ensures.word
-    ∙ ap (λ b. pass_to_writer b c.readers-wait-readers.result l.word) (c.writers-wait-writers.ensures ∙ ap has_writer goes)
-    ∙ ap (λ b. pass_to_writer (has_writer (rest l.queue)) b l.word) (c.readers-wait-readers.ensures ∙ ap has_reader goes) in
+    let goes = c.take_first-first.ensures.queue in
+    let marks = c.pass_to_writer-passed.ensures.word
+    ∙ ap (λ b. pass_to_writer b c.readers_wait-readers.result l.word) (c.writers_wait-writers.ensures ∙ ap has_writer goes)
+    ∙ ap (λ b. pass_to_writer (has_writer (rest l.queue)) b l.word) (c.readers_wait-readers.ensures ∙ ap has_reader goes) in
     let held : Word → List Entry → Lock = λ w q. with_phase e.task (Holding e.direction) (with_queue q (with_word w l)) in
     record {
-      taken = c.push.ensures ∙ ap (λ es. es ++ (e ∷ [])) c.none_taken.ensures;
-      lock = ap (λ w. held w (entries c.take-first-first.new.self)) marks ∙ ap (held (pass_to_writer (has_writer (rest l.queue)) (has_reader (rest l.queue)) l.word)) goes;
+      taken = c.push.ensures ∙ ap (λ es. es ++ (e ∷ [])) c.none-taken.ensures;
+      lock = ap (λ w. held w (entries c.take_first-first.new.self)) marks ∙ ap (held (pass_to_writer (has_writer (rest l.queue)) (has_reader (rest l.queue)) l.word)) goes;
       none = still_none s.rows e.task row within c.requires.none refl;
       flag = refl;
       full = length-set s.rows e.task row ∙ c.requires.full;

@@ -10,8 +10,8 @@ use Rattle.strips.proofs.Sections.{length_parts, pushed_some, settled_tasks}
 pub push-requires : goal.push-requires
 push-requires c = omega (arith, length_parts c.args.self.now)
 
-pub invariant-of-self : goal.invariant-of-self
-invariant-of-self c = (λ none. absurd (omega (arith, pushed_some c.push.new.self _ _ c.push.ensures)), tt)
+pub invariant_of-self : goal.invariant_of-self
+invariant_of-self c = record { settled = λ none. absurd (omega (arith, pushed_some c.push.new.self _ _ c.push.ensures)) }
 
 pub push-requires-then-self-eq0 : goal.push-requires-then-self-eq0
 push-requires-then-self-eq0 c = omega (arith, length_parts c.args.self.now)

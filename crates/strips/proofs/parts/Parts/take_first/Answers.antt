@@ -25,7 +25,7 @@ returns-then-self-eq0-2 c =
     let none : length (tasks_of p.ahead) ≡ 0 = omega (arith, length_tasks p.ahead) in
     let whole = first_reader c.take-task-2.result (tasks_of p.ahead) (tasks_of p.readers) (tasks_of left) (tasks_of p.behind) none c.take-task-2.ensures in
     let exchanged = lined_exchanged (tasks_of p.ahead) (tasks_of left) (tasks_of p.behind) none (length_tasks left ∙ c.if-self-eq0-2.true) in
-    let swapped = ap (λ s. lined (tasks_of s) (tasks_of left) (tasks_of c.swap.new.y)) c.swap.ensures.x-after ∙ ap (λ s. lined (tasks_of p.behind) (tasks_of left) (tasks_of s)) c.swap.ensures.y-after in
+    let swapped = ap (λ s. lined (tasks_of s) (tasks_of left) (tasks_of c.swap.new.y)) c.swap.ensures.x_after ∙ ap (λ s. lined (tasks_of p.behind) (tasks_of left) (tasks_of s)) c.swap.ensures.y_after in
     record { answer = sym (ap first whole); queue = swapped ∙ exchanged ∙ sym (ap rest whole) }
 
 pub returns-else-self-eq0-2 : goal.returns-else-self-eq0-2
