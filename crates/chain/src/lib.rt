@@ -3,7 +3,7 @@
 #![tactic(auto)]
 
 ghost use Rattle.chain.specs.Walks.{Laws, Agrees, held};
-ghost use Rattle.std.proofs.Common.{rules, arith};
+ghost use Rattle.std.proofs.Common.{rules};
 
 mod places;
 
@@ -21,11 +21,11 @@ pub struct Chain {
 impl WaitQueue for Chain {
     ghost entries = { λ q. held q.links };
 
-    ghost in_range = { first_of (Prim.search rules, Prim.grind (arith, Self.row.coded.inj)) };
+    ghost in_range = { Prim.search rules };
 
-    ghost none_twice = { first_of (Prim.search rules, Prim.grind (arith, Self.row.coded.inj)) };
+    ghost none_twice = { Prim.search rules };
 
-    ghost neighbours = { first_of (Prim.search rules, Prim.grind (arith, Self.row.coded.inj)) };
+    ghost neighbours = { Prim.search rules };
 
     fn fresh() -> Chain {
         let blank = Place {

@@ -57,13 +57,13 @@ impl LockWord for Grouped {
 
     ghost meaning = { λ w. grouped_word w.marks.locked w.marks.writers_wait w.marks.readers_wait w.counts };
 
-    ghost some_groups = { first_of (Prim.search rules, Prim.grind (arith, Self.row.coded.inj)) };
+    ghost some_groups = { Prim.search rules };
 
-    ghost few_groups = { first_of (Prim.search rules, Prim.grind (arith, Self.row.coded.inj)) };
+    ghost few_groups = { Prim.search rules };
 
-    ghost one_count_each = { first_of (Prim.search rules, Prim.grind (arith, Self.row.coded.inj)) };
+    ghost one_count_each = { Prim.search rules };
 
-    ghost within_limit = { first_of (Prim.search rules, Prim.grind (arith, Self.row.coded.inj)) };
+    ghost within_limit = { Prim.search rules };
 
     ghost ample_limit = { λ g. let few = tasks_below_le grouped_sizes.groups g 64 in omega arith };
 

@@ -1,4 +1,4 @@
-// Each refusal of the lock and its size, and on every pair of a lock word and a wait queue a blank lock and a hand-over.
+// Refusals, blank locks and a hand-over, run on every pair of a lock word and a wait queue, and the size of a lock.
 #![tactic(auto)]
 
 #[cfg(test)]
@@ -17,3 +17,5 @@ mod refused_passes;
 mod sizes;
 #[cfg(test)]
 mod steps;
+#[cfg(test)]
+mod without_room;

@@ -1,29 +1,15 @@
 // Calls that are refused and alter nothing.
-use chain::Chain;
 use lock::Lock;
-use packed::Packed;
+use queue::WaitQueue;
 use ring::Ring;
 use std::process::Abort;
 use types::{Direction, Entry, Refusal};
+use word::LockWord;
 
-pub(crate) fn no_making(
+// A claim is refused, and nothing alters.
+pub(crate) fn no_claim<W: LockWord + Drop, Q: WaitQueue + Drop>(
     rt: &impl Abort,
-    lock: &mut Lock<Packed, Chain>,
-    tasks: u32,
-    spin: u32,
-    archive: &mut Ring<u32>,
-    refusal: Refusal,
-) {
-    let phase = lock.phase(0);
-    let free = archive.free();
-    assert_eq!(rt; lock.make(tasks, spin, archive), Err(refusal));
-    assert_eq!(rt; lock.phase(0), phase);
-    assert_eq!(rt; archive.free(), free);
-}
-
-pub(crate) fn no_claim(
-    rt: &impl Abort,
-    lock: &mut Lock<Packed, Chain>,
+    lock: &mut Lock<W, Q>,
     task: u32,
     archive: &mut Ring<u32>,
     refusal: Refusal,
@@ -35,9 +21,10 @@ pub(crate) fn no_claim(
     assert_eq!(rt; archive.free(), free);
 }
 
-pub(crate) fn no_move(
+// A move is refused, and nothing alters.
+pub(crate) fn no_move<W: LockWord + Drop, Q: WaitQueue + Drop>(
     rt: &impl Abort,
-    lock: &mut Lock<Packed, Chain>,
+    lock: &mut Lock<W, Q>,
     task: u32,
     notices: &mut Ring<Entry>,
     archive: &mut Ring<u32>,
@@ -52,9 +39,10 @@ pub(crate) fn no_move(
     assert_eq!(rt; archive.free(), free);
 }
 
-pub(crate) fn no_leave(
+// A leave is refused, and nothing alters.
+pub(crate) fn no_leave<W: LockWord + Drop, Q: WaitQueue + Drop>(
     rt: &impl Abort,
-    lock: &mut Lock<Packed, Chain>,
+    lock: &mut Lock<W, Q>,
     task: u32,
     archive: &mut Ring<u32>,
     refusal: Refusal,

@@ -4,7 +4,7 @@
 ghost use Rattle.std.specs.Prelude.{◌≡◌, true, length};
 ghost use Rattle.queue.specs.Queues.{tasks_in_range, no_task_twice, readers_are_neighbours};
 ghost use Rattle.strips.specs.Entries.{entries_of, Flagged};
-ghost use Rattle.std.proofs.Common.{rules, arith};
+ghost use Rattle.std.proofs.Common.{rules};
 
 mod parts;
 mod strip;
@@ -28,11 +28,11 @@ pub struct Strips {
 impl WaitQueue for Strips {
     ghost entries = { λ q. entries_of q.parts };
 
-    ghost in_range = { first_of (Prim.search rules, Prim.grind (arith, Self.row.coded.inj)) };
+    ghost in_range = { Prim.search rules };
 
-    ghost none_twice = { first_of (Prim.search rules, Prim.grind (arith, Self.row.coded.inj)) };
+    ghost none_twice = { Prim.search rules };
 
-    ghost neighbours = { first_of (Prim.search rules, Prim.grind (arith, Self.row.coded.inj)) };
+    ghost neighbours = { Prim.search rules };
 
     fn fresh() -> Strips {
         Strips {

@@ -9,20 +9,20 @@ use Rattle.transcript.proofs.answer_line.Goals as goal
 pub returns-in-Ok : goal.returns-in-Ok
 returns-in-Ok c =
     let b = setup_of c.args.lock.now c.args.notices.now c.args.archive.now in
-    let b' = setup_of c.run-line.new.lock c.run-line.new.notices c.run-line.new.archive in
-    let b'' = setup_of c.run-line.new.lock c.clear.new.self c.push-words.new.archive in
+    let b' = setup_of c.run_line.new.lock c.run_line.new.notices c.run_line.new.archive in
+    let b'' = setup_of c.run_line.new.lock c.clear.new.self c.push_words.new.archive in
     let sofar = vec_items c.args.text.now in
-    let text = vec_items c.push-words.new.text in
+    let text = vec_items c.push_words.new.text in
     let line = c.args.line.now in
     record {
-      answered = IfOk-weaker c.push-words.result (λ _. Emptied b'.archive sofar b''.archive text) (λ _. Answered line b sofar b'' text) (λ _ wrote. accepted_line line b b' b'' c.run-line.result sofar text c.requires.ready c.in-Ok.is c.run-line.ensures.ran refl c.clear.ensures.free wrote) c.push-words.ensures;
+      answered = IfOk-weaker c.push_words.result (λ _. Emptied b'.archive sofar b''.archive text) (λ _. Answered line b sofar b'' text) (λ _ wrote. accepted_line line b b' b'' c.run_line.result sofar text c.requires.ready c.in-Ok.is c.run_line.ensures.ran refl c.clear.ensures.free wrote) c.push_words.ensures;
     }
 
 pub returns-in-Err : goal.returns-in-Err
 returns-in-Err c =
     let b = setup_of c.args.lock.now c.args.notices.now c.args.archive.now in
-    let b' = setup_of c.run-line.new.lock c.run-line.new.notices c.run-line.new.archive in
-    let same = c.run-line.ensures.same c.in-Err.trouble c.in-Err.is in
+    let b' = setup_of c.run_line.new.lock c.run_line.new.notices c.run_line.new.archive in
+    let same = c.run_line.ensures.same c.in-Err.trouble c.in-Err.is in
     record {
-      answered = IfOk-weaker _ _ _ (λ _ wrote. refused_line c.args.line.now b b' c.run-line.result c.in-Err.trouble (vec_items c.args.text.now) (vec_items c.push-trouble.new.text) c.requires.ready c.in-Err.is c.run-line.ensures.ran (ap held_of same.1) (ap held_of same.2) wrote) c.push-trouble.ensures;
+      answered = IfOk-weaker _ _ _ (λ _ wrote. refused_line c.args.line.now b b' c.run_line.result c.in-Err.trouble (vec_items c.args.text.now) (vec_items c.push_trouble.new.text) c.requires.ready c.in-Err.is c.run_line.ensures.ran (ap held_of same.1) (ap held_of same.2) wrote) c.push_trouble.ensures;
     }

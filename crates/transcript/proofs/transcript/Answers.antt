@@ -22,13 +22,13 @@ loop-line-init c =
 pub loop-line-preserved : goal.loop-line-preserved
 loop-line-preserved c =
     let b = setup_of c.loop-line.lock c.loop-line.notices c.loop-line.archive in
-    let b' = setup_of c.answer-line.new.lock c.answer-line.new.notices c.answer-line.new.archive in
-    let answered = c.in-ok-answer-line.ensures.answered in
-    (answered.ready, one_more c.in-Some.line.now c.loop-line.rest.now c.in-Some.more.now b b' (vec_items c.loop-line.text) (vec_items c.answer-line.new.text) c.in-Some.ensures.lines answered ∙ c.loop-line.invariant.1)
+    let b' = setup_of c.answer_line.new.lock c.answer_line.new.notices c.answer_line.new.archive in
+    let answered = c.in_ok-answer_line.ensures.answered in
+    (answered.ready, one_more c.in-Some.line.now c.loop-line.rest.now c.in-Some.more.now b b' (vec_items c.loop-line.text) (vec_items c.answer_line.new.text) c.in-Some.ensures.lines answered ∙ c.loop-line.invariant.1)
 
 pub returns : goal.returns
 returns c =
-    record { printed = no_more (lines_of c.loop-line.rest.now) (setup_of c.loop-line.lock c.loop-line.notices c.loop-line.archive).lock (vec_items c.loop-line.text) c.in-default.ensures.lines ∙ c.loop-line.invariant.1; retraces = printed_retraces c.args.input.now }
+    record { printed = no_more (lines_of c.loop-line.rest.now) (setup_of c.loop-line.lock c.loop-line.notices c.loop-line.archive).lock (vec_items c.loop-line.text) c.in_default.ensures.lines ∙ c.loop-line.invariant.1; retraces = printed_retraces c.args.input.now }
 
-pub returns-in-err-answer-line : goal.returns-in-err-answer-line
-returns-in-err-answer-line c = record { printed = IfOk-from_err c.from-residual.result _ c.from-residual.ensures.0; retraces = printed_retraces c.args.input.now }
+pub returns-in_err-answer_line : goal.returns-in_err-answer_line
+returns-in_err-answer_line c = record { printed = IfOk-from_err c.from_residual.result _ c.from_residual.ensures.0; retraces = printed_retraces c.args.input.now }
