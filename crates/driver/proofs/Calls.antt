@@ -1,11 +1,11 @@
 -- The calls of a lock on its setup. Assumes nothing.
-use Rattle.std.proofs.Common.{◌≡◌, ℕ, ◌+◌, ◌<◌, ◌≤◌, Bool, true, false, cond, eqb, ltb, leb, List, [], ◌∷◌, length, Some, None, Option, Result, sym, refl, ap, ◌∙◌, subst, arith}
+use Rattle.std.proofs.Common.{◌≡◌, ℕ, ◌+◌, Bool, true, false, cond, eqb, ltb, leb, [], length, Some, None, Option, Result, sym, refl, ap, ◌∙◌, subst, arith}
 use Rattle.std.proofs.lemmas.Bool.{cond-false, cond_both, le-ltb}
 use Rattle.types.specs.declared.Direction.{Direction}
 use Rattle.types.specs.declared.Direction.TheVariants.{Read, Write}
 use Rattle.types.specs.declared.Entry.{Entry}
 use Rattle.types.specs.declared.Verb.{Verb}
-use Rattle.types.specs.declared.Verb.TheVariants.{ClaimRead, ClaimWrite, Move, Leave}
+use Rattle.types.specs.declared.Verb.TheVariants.{Move, Leave}
 use Rattle.types.specs.declared.Outcome.{Outcome}
 use Rattle.types.specs.declared.Refusal.{Refusal}
 use Rattle.types.specs.declared.Refusal.TheVariants.{NotMade, NoSuchTask}
@@ -15,7 +15,7 @@ use Rattle.packed.specs.Unpacked.{packed_sizes}
 use Rattle.rules.specs.declared.Phase.{Phase}
 use Rattle.rules.specs.declared.Phase.TheVariants.{Out, Claiming, AtQueueLock, Queueing, Queued, Holding, Owing, Passing}
 use Rattle.rules.specs.Locks.{Lock, phase_of}
-use Rattle.rules.specs.Steps.{Done, Room, Answer, refused, accepted, step, after, effect, unfit, recorded, gone, reader_gone, writer_gone, leaving, claimed}
+use Rattle.rules.specs.Steps.{Done, Room, Answer, refused, step, after, effect, unfit, recorded, gone, leaving, claimed}
 use Rattle.rules.specs.Records.{words_of, notices_of, making_words}
 use Rattle.lock.specs.Answers.{claim_verb, result_of, archive_room, ring_room, after_making, Called, Made}
 use Rattle.driver.specs.Lines.{Setup, setup, call_answer, make_answer, called_of, built_of, setup_called, setup_made}

@@ -4,7 +4,6 @@ use Rattle.types.specs.Numbers.{outcome_number, refusal_number}
 use Rattle.types.specs.declared.Verb.{Verb}
 use Rattle.types.specs.declared.Verb.TheVariants.{ClaimRead, ClaimWrite, Move, Leave}
 use Rattle.types.specs.declared.Refusal.{Refusal}
-use Rattle.word.specs.Words.{Word}
 use Rattle.packed.specs.Unpacked.{packed_sizes, unpacked}
 use Rattle.rules.specs.Locks.{Lock, fresh_lock, blank_lock}
 use Rattle.rules.specs.Steps.{Answer, refused, accepted, Room, step, make}

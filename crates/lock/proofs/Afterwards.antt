@@ -1,14 +1,13 @@
 -- The lock after each move, from the parts that changed. Assumes nothing.
-use Rattle.std.proofs.Common.{◌≡◌, ℕ, Bool, true, false, cond, leb, List, set, sym, refl, ap, ◌∙◌}
+use Rattle.std.proofs.Common.{◌≡◌, ℕ, true, false, cond, leb, List, sym, ap, ◌∙◌}
 use Rattle.std.proofs.lemmas.Bool.{cond-true, cond-false}
 use Rattle.types.specs.declared.Direction.{Direction}
 use Rattle.types.specs.declared.Direction.TheVariants.{Read, Write}
 use Rattle.types.specs.declared.Entry.{Entry}
-use Rattle.types.specs.declared.Outcome.TheVariants.{Claimed, Granted, Again, ToQueueLock, HasQueueLock, Busy, Queued as QueuedUp, Out as LeftOut, Owes}
+use Rattle.types.specs.declared.Outcome.TheVariants.{Granted, Again, ToQueueLock, Queued as QueuedUp}
 use Rattle.word.specs.Words.{Sizes, Word, can_enter_to_read, can_enter_to_write, mark_waiters}
 use Rattle.queue.specs.Queues.{join}
-use Rattle.rules.specs.declared.Phase.{Phase}
-use Rattle.rules.specs.declared.Phase.TheVariants.{Out, Claiming, AtQueueLock, Queueing, Queued, Holding, Owing, Passing}
+use Rattle.rules.specs.declared.Phase.TheVariants.{Claiming, AtQueueLock, Queued, Holding}
 use Rattle.rules.specs.Locks.{Lock, row_of, with_row, with_word, with_queue}
 use Rattle.rules.specs.Steps.{Done, plain, can_enter, enter, group_of, one_more_attempt, granted, in_vain, queued_up}
 

@@ -1,5 +1,5 @@
 -- How a call is judged, once its task's row is found. Assumes nothing.
-use Rattle.std.proofs.Common.{◌≡◌, ℕ, ◌+◌, ◌<◌, ◌≤◌, Bool, true, false, cond, eqb, ltb, leb, List, [], ◌∷◌, length, Some, None, Ok, Err, Option, Result, sym, refl, ap, ◌∙◌, subst, inl, inr, arith}
+use Rattle.std.proofs.Common.{◌≡◌, ℕ, ◌+◌, ◌<◌, ◌≤◌, Bool, true, false, cond, eqb, ltb, leb, List, [], ◌∷◌, length, Some, Ok, Err, Result, sym, refl, ap, ◌∙◌, subst, inl, inr, arith}
 use Rattle.std.proofs.lemmas.Bool.{cond-true, cond-false, cond_both, cases_Bool, lt-ltb, le-ltb, lt-leb, ne_eqb, true≢false}
 use Rattle.types.specs.declared.Direction.{Direction}
 use Rattle.types.specs.declared.Direction.TheVariants.{Read, Write}
@@ -17,7 +17,7 @@ use Rattle.rules.specs.Locks.{Lock, row_of, phase_of, with_phase, is_queue_locke
 use Rattle.queue.specs.Queues.{is_reader, has_reader}
 use Rattle.types.specs.declared.Outcome.TheVariants.{HasQueueLock, Busy, Passed}
 use Rattle.types.specs.declared.Outcome.{Outcome}
-use Rattle.rules.specs.Steps.{Done, plain, Room, Answer, refused, accepted, step, after, effect, unfit, recorded, gone, reader_gone, writer_gone, leaving, can_enter, one_more_attempt, granted, in_vain, queued_up, moved, passed, passed_to, passed_to_readers, has_writer, holding_all, front_readers}
+use Rattle.rules.specs.Steps.{Done, plain, Room, refused, accepted, step, after, effect, unfit, recorded, gone, reader_gone, writer_gone, leaving, can_enter, one_more_attempt, granted, in_vain, queued_up, moved, passed, passed_to, passed_to_readers, has_writer, holding_all, front_readers}
 use Rattle.rules.specs.Records.{words_of}
 use Rattle.lock.specs.Answers.{row_answer, result_of, may_go_on, Called}
 use Rattle.lock.specs.Taken.{taken_by}

@@ -4,7 +4,7 @@ use Rattle.types.specs.declared.Direction.{Direction}
 use Rattle.types.specs.declared.Direction.TheVariants.{Read, Write}
 use Rattle.types.specs.declared.Entry.{Entry}
 use Rattle.types.specs.declared.Verb.{Verb}
-use Rattle.types.specs.declared.Verb.TheVariants.{ClaimRead, ClaimWrite, Move, Leave}
+use Rattle.types.specs.declared.Verb.TheVariants.{ClaimRead, ClaimWrite}
 use Rattle.types.specs.declared.Outcome.{Outcome}
 use Rattle.types.specs.declared.Refusal.{Refusal}
 use Rattle.types.specs.declared.Refusal.TheVariants.{NotMade, NoSuchTask}

@@ -1,19 +1,18 @@
 -- The readers that are taken in a pass are admitted one by one. Assumes nothing.
-use Rattle.std.proofs.Common.{◌≡◌, ℕ, zero, suc, ◌+◌, ◌-◌, ◌%◌, ◌<◌, ◌≤◌, Bool, true, false, cond, not, ◌&&◌, ◌||◌, eqb, ltb, ◌⊎◌, List, [], ◌∷◌, ◌++◌, length, get_or, set, sym, refl, ap, ◌∙◌, subst, inl, inr, arith}
-use Rattle.std.proofs.lemmas.Bool.{cases_eq, cases_Bool, eq-eqb, ne_eqb, eqb-true, and_parts, and_from, or_parts, cond-true, lt-ltb, true≢false, not-true}
+use Rattle.std.proofs.Common.{◌≡◌, ℕ, ◌+◌, ◌<◌, true, false, not, eqb, List, [], ◌∷◌, length, get_or, set, sym, refl, ap, ◌∙◌, subst, inl, inr, arith}
+use Rattle.std.proofs.lemmas.Bool.{cases_eq, eq-eqb, ne_eqb, and_parts, or_parts, cond-true, lt-ltb, true≢false, not-true}
 use Rattle.std.proofs.lemmas.Bool.Decides.{nat_tests}
 use Rattle.types.specs.declared.Direction.{Direction}
 use Rattle.types.specs.declared.Direction.TheVariants.{Read, Write}
 use Rattle.types.specs.declared.Entry.{Entry}
 use Rattle.word.specs.Words.{Sizes, Word, count, counted, can_admit_reader, admit_reader}
 use Rattle.queue.specs.Queues.{has_task, no_task_twice}
-use Rattle.rules.specs.declared.Phase.{Phase}
-use Rattle.rules.specs.declared.Phase.TheVariants.{Out, Claiming, AtQueueLock, Queueing, Queued, Holding, Owing, Passing}
+use Rattle.rules.specs.declared.Phase.TheVariants.{Queued, Holding}
 use Rattle.rules.specs.declared.Row.{Row}
 use Rattle.rules.specs.Locks.{Lock, out_row}
 use Rattle.rules.specs.Steps.{group_of, admitted, holding_all}
 use Rattle.rules.specs.Runs.{Lawful}
-use Rattle.rules.proofs.Rows.{phase_in, is_same_way, holds_to, queued_to, owes, total, reads, writes, owing, phase_here, phase_there}
+use Rattle.rules.proofs.Rows.{phase_in, is_same_way, holds_to, owes, total, reads, writes, owing, phase_here, phase_there}
 use Rattle.rules.proofs.Counts.{Counted, below_limit, group_below, count_wide}
 use Rattle.rules.proofs.Change
 use Rattle.rules.proofs.Went.{all_to}

@@ -1,25 +1,17 @@
 -- Totals and counts after one row has changed. Assumes nothing.
-use Rattle.std.proofs.Common.{◌≡◌, ℕ, zero, suc, ◌+◌, ◌-◌, ◌%◌, ◌<◌, ◌≤◌, Bool, true, false, cond, not, ◌&&◌, ◌||◌, eqb, ltb, ◌⊎◌, List, [], ◌∷◌, ◌++◌, length, get_or, set, replicate, sym, refl, ap, ◌∙◌, subst, inl, inr, arith}
-use Rattle.std.proofs.lemmas.List.{length-set, length-replicate, get_or-replicate}
-use Rattle.std.proofs.lemmas.Bool.{cases_eq, cases_Bool, eq-eqb, ne_eqb, eqb-true, and_parts, and_from, or_parts, cond_both, lt-ltb, true≢false}
+use Rattle.std.proofs.Common.{◌≡◌, ℕ, ◌+◌, ◌-◌, ◌%◌, ◌<◌, Bool, true, false, ◌&&◌, eqb, List, length, set, sym, refl, ap, ◌∙◌, inl, inr, arith}
+use Rattle.std.proofs.lemmas.List.{length-set}
+use Rattle.std.proofs.lemmas.Bool.{cases_eq, eq-eqb, ne_eqb}
 use Rattle.std.proofs.lemmas.Bool.Decides.{nat_tests}
-use Rattle.types.specs.declared.Direction.{Direction}
-use Rattle.types.specs.declared.Direction.TheVariants.{Read, Write}
-use Rattle.types.specs.declared.Entry.{Entry}
-use Rattle.word.specs.Words.{Sizes, Word, count, counted, marked, can_enter_to_read, can_enter_to_write, mark_waiters, all_zero, fresh_word}
-use Rattle.queue.specs.Queues.{is_reader, has_reader, has_task, can_join, placed}
-use Rattle.queue.proofs.Laws.{Lawful as LawfulQueue, placed_lawful, rest_lawful}
+use Rattle.types.specs.declared.Direction.TheVariants.{Read}
+use Rattle.word.specs.Words.{Sizes, Word, count, counted}
 use Rattle.rules.specs.declared.Phase.{Phase}
-use Rattle.rules.specs.declared.Phase.TheVariants.{Out, Claiming, AtQueueLock, Queueing, Queued, Holding, Owing, Passing}
 use Rattle.rules.specs.declared.Row.{Row}
-use Rattle.rules.specs.Locks.{out_row}
-use Rattle.rules.specs.Steps.{group_of, can_enter, has_writer}
+use Rattle.rules.specs.Steps.{group_of}
 use Rattle.rules.specs.Runs.{Lawful}
 use Rattle.rules.proofs.Tally.{bit}
-use Rattle.rules.proofs.Rows.{phase_in, is_same_way, holds_to, queued_to, owes, total, reads, writes, owing, reads_in, phase_here, phase_there, phase_set, total_set, total_fresh, phase_fresh}
-use Rattle.rules.proofs.Core.{Core, core_fresh, core_enter_read, core_enter_write, core_mark_read, core_mark_write, core_leave_read, core_owe_read, core_leave_write, core_owe_write}
-use Rattle.rules.proofs.Counts.{Counted, zero_none, none_zero, below_limit, group_below, count_here, count_there, count_wide}
-use Rattle.rules.proofs.Entries.{has_entry, task_entry, placed_entry, placed_writer, placed_reader}
+use Rattle.rules.proofs.Rows.{phase_in, holds_to, total, reads_in, total_set}
+use Rattle.rules.proofs.Counts.{Counted, group_below, count_here, count_there}
 
 module _ (z : Sizes) (fine : Lawful z) (rows : List Row) (w : Word) (size : length rows ≡ 64) (wide : length w.counts ≡ z.groups) (agree : Counted z w rows) (t : ℕ) (small : t < 64) (row : Row) where
   pub within : t < length rows

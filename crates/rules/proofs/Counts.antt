@@ -1,16 +1,14 @@
 -- The counts of a word against the tasks that hold to read. Assumes nothing.
-use Rattle.std.proofs.Common.{◌≡◌, ℕ, zero, suc, ◌+◌, ◌-◌, ◌%◌, ◌<◌, ◌≤◌, Bool, true, false, cond, ◌&&◌, ◌||◌, eqb, ltb, ◌⊎◌, List, [], ◌∷◌, ◌++◌, length, get_or, set, replicate, sym, refl, ap, ◌∙◌, inl, inr, add-one, arith}
-use Rattle.std.proofs.lemmas.List.{get_or-set_same, get_or-set_other, length-set, get_or-replicate, length-replicate}
-use Rattle.std.proofs.lemmas.Bool.{cases_eq, cases_Bool, eq-eqb, ne_eqb, eqb-true, and_parts, and_from, lt-ltb}
+use Rattle.std.proofs.Common.{◌≡◌, ℕ, zero, suc, ◌%◌, ◌<◌, true, false, ◌&&◌, eqb, List, [], ◌∷◌, length, get_or, sym, refl, ap, ◌∙◌, arith}
+use Rattle.std.proofs.lemmas.List.{get_or-set_same, get_or-set_other, length-set}
+use Rattle.std.proofs.lemmas.Bool.{eq-eqb, eqb-true, and_parts, and_from}
 use Rattle.std.proofs.lemmas.Nat.{mod_below}
 use Rattle.std.proofs.lemmas.Bool.Decides.{nat_tests}
-use Rattle.types.specs.declared.Direction.{Direction}
-use Rattle.types.specs.declared.Direction.TheVariants.{Read, Write}
-use Rattle.word.specs.Words.{Sizes, Word, count, counted, all_zero, tasks_in_group}
-use Rattle.rules.specs.declared.Phase.{Phase}
+use Rattle.types.specs.declared.Direction.TheVariants.{Read}
+use Rattle.word.specs.Words.{Sizes, Word, count, counted, all_zero}
 use Rattle.rules.specs.declared.Row.{Row}
 use Rattle.rules.specs.Runs.{Lawful}
-use Rattle.rules.proofs.Tally.{bit, tally, tally_none, none_tally, tally_less, tally_group}
+use Rattle.rules.proofs.Tally.{bit, tally_none, none_tally, tally_less, tally_group}
 use Rattle.rules.proofs.Rows.{phase_in, holds_to, total, reads, reads_in}
 
 all_zero_at : (ns : List ℕ) → all_zero ns ≡ true → (g : ℕ) → get_or ns g 0 ≡ 0

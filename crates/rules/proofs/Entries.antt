@@ -1,11 +1,11 @@
 -- Which tasks are in the queue, after a join and after the front is taken. Assumes nothing.
-use Rattle.std.proofs.Common.{◌≡◌, ℕ, zero, suc, ◌+◌, ◌<◌, ◌≤◌, Bool, true, false, cond, not, ◌&&◌, ◌||◌, eqb, ltb, ◌⊎◌, List, [], ◌∷◌, ◌++◌, length, sym, refl, ap, ◌∙◌, inl, inr, arith}
-use Rattle.std.proofs.lemmas.Bool.{cond_both, cond-true, cases_eq, cases_Bool, eq-eqb, ne_eqb, eqb-true, and_parts, and_from, or_parts}
+use Rattle.std.proofs.Common.{◌≡◌, ℕ, Bool, true, false, cond, not, ◌&&◌, ◌||◌, eqb, List, [], ◌∷◌, ◌++◌, sym, refl, ap, ◌∙◌, arith}
+use Rattle.std.proofs.lemmas.Bool.{cond_both}
 use Rattle.std.proofs.lemmas.Bool.Decides.{nat_tests}
 use Rattle.types.specs.declared.Direction.{Direction}
 use Rattle.types.specs.declared.Direction.TheVariants.{Read, Write}
 use Rattle.types.specs.declared.Entry.{Entry}
-use Rattle.queue.specs.Queues.{is_reader, has_reader, has_task, readers_first, readers_are_neighbours, can_join, behind_last_reader, placed, join}
+use Rattle.queue.specs.Queues.{is_reader, has_reader, has_task, readers_first, readers_are_neighbours, behind_last_reader, placed}
 use Rattle.rules.specs.Steps.{has_writer, front_readers, behind_readers}
 use Rattle.rules.proofs.Rows.{is_same_way}
 

@@ -1,25 +1,24 @@
 -- A pass keeps what holds of a lock. Assumes nothing.
-use Rattle.std.proofs.Common.{◌≡◌, ℕ, zero, suc, ◌+◌, ◌-◌, ◌%◌, ◌<◌, ◌≤◌, Bool, true, false, cond, not, ◌&&◌, ◌||◌, eqb, ltb, ◌⊎◌, List, [], ◌∷◌, ◌++◌, length, get_or, set, sym, refl, ap, ◌∙◌, subst, inl, inr, arith}
-use Rattle.std.proofs.lemmas.Bool.{cases_eq, cases_Bool, eq-eqb, ne_eqb, eqb-true, ltb-true, and_parts, and_from, or_parts, cond-true, cond_both, lt-ltb, true≢false, not-true}
+use Rattle.std.proofs.Common.{◌≡◌, ℕ, ◌+◌, ◌<◌, Bool, true, false, not, ◌||◌, eqb, ltb, List, [], ◌∷◌, ◌++◌, length, set, sym, refl, ap, ◌∙◌, subst, inl, inr, arith}
+use Rattle.std.proofs.lemmas.Bool.{cases_eq, cases_Bool, eq-eqb, ne_eqb, eqb-true, ltb-true, and_parts, or_parts, cond-true, cond_both, true≢false}
 use Rattle.std.proofs.lemmas.Bool.Decides.{nat_tests}
 use Rattle.types.specs.declared.Direction.{Direction}
 use Rattle.types.specs.declared.Direction.TheVariants.{Read, Write}
 use Rattle.types.specs.declared.Entry.{Entry}
-use Rattle.word.specs.Words.{Sizes, Word, count, counted, marked, all_zero, pass_to_readers, pass_to_writer}
+use Rattle.word.specs.Words.{Sizes, Word, marked, all_zero, pass_to_readers, pass_to_writer}
 use Rattle.queue.specs.Queues.{is_reader, has_reader, has_task, tasks_in_range, no_task_twice, readers_are_neighbours}
 use Rattle.queue.proofs.Laws.{Lawful as LawfulQueue, rest_lawful}
 use Rattle.queue.proofs.Places.{has_task_append}
 use Rattle.rules.specs.declared.Phase.{Phase}
 use Rattle.rules.specs.declared.Phase.TheVariants.{Out, Claiming, AtQueueLock, Queueing, Queued, Holding, Owing, Passing}
 use Rattle.rules.specs.declared.Row.{Row}
-use Rattle.rules.specs.Locks.{Lock, out_row}
-use Rattle.rules.specs.Steps.{group_of, has_writer, front_readers, behind_readers, admitted}
+use Rattle.rules.specs.Steps.{has_writer, front_readers, behind_readers, admitted}
 use Rattle.rules.specs.Runs.{Lawful}
-use Rattle.rules.proofs.Rows.{phase_in, is_same_way, holds_to, queued_to, owes, total, reads, writes, owing, reads_in, phase_here, phase_there}
+use Rattle.rules.proofs.Rows.{phase_in, holds_to, queued_to, owes, total, reads, writes, owing, phase_here, phase_there}
 use Rattle.rules.proofs.Core.{Core, core_at, core_pass_write, core_pass_read}
 use Rattle.rules.proofs.Counts.{Counted, none_zero}
 use Rattle.rules.proofs.Change
-use Rattle.rules.proofs.Entries.{has_entry, is_entry, entry_append, entry_task, task_entry, front_behind, front_reads, behind_writes}
+use Rattle.rules.proofs.Entries.{has_entry, entry_append, entry_task, task_entry, front_behind, front_reads, behind_writes}
 use Rattle.rules.proofs.Sound.{Sound}
 use Rattle.rules.proofs.Went.{all_to}
 use Rattle.rules.proofs.Admit.{Admitted, admit_all, holding_rows}
@@ -104,21 +103,21 @@ module _ (z : Sizes) (fine : Lawful z) (rows : List Row) (w : Word) (q : List En
             ]
       ]
 
-  module _ (r₁ : Row) (isOut : r₁.phase ≡ Out) where
+  module _ (r₁ : Row) (is_out : r₁.phase ≡ Out) where
     rows₁_out : phase_in (set rows t r₁) t ≡ Out
-    rows₁_out = phase_here rows t r₁ (Change.within z fine rows w s.size s.wide s.agree t small r₁) ∙ isOut
+    rows₁_out = phase_here rows t r₁ (Change.within z fine rows w s.size s.wide s.agree t small r₁) ∙ is_out
 
     rows₁_there : (x : ℕ) → (x ≡ t → ⊥) → phase_in (set rows t r₁) x ≡ phase_in rows x
     rows₁_there x ne = phase_there rows t r₁ (Change.within z fine rows w s.size s.wide s.agree t small r₁) x ne
 
     stays₁ : (f : ℕ → Phase → Bool) → f t Passing ≡ f t Out → total f rows ≡ total f (set rows t r₁)
-    stays₁ f same = Change.stays z fine rows w s.size s.wide s.agree t small r₁ f (ap (f t) passing ∙ same ∙ sym (ap (f t) isOut))
+    stays₁ f same = Change.stays z fine rows w s.size s.wide s.agree t small r₁ f (ap (f t) passing ∙ same ∙ sym (ap (f t) is_out))
 
     owes₁ : total owing rows ≡ total owing (set rows t r₁) + 1
-    owes₁ = Change.falls z fine rows w s.size s.wide s.agree t small r₁ owing (ap owes passing) (ap owes isOut)
+    owes₁ = Change.falls z fine rows w s.size s.wide s.agree t small r₁ owing (ap owes passing) (ap owes is_out)
 
     agree₁ : Counted z w (set rows t r₁)
-    agree₁ = Change.agree_same z fine rows w s.size s.wide s.agree t small r₁ (ap (holds_to Read) passing ∙ sym (ap (holds_to Read) isOut))
+    agree₁ = Change.agree_same z fine rows w s.size s.wide s.agree t small r₁ (ap (holds_to Read) passing ∙ sym (ap (holds_to Read) is_out))
 
     size₁ : length (set rows t r₁) ≡ 64
     size₁ = Change.size' z fine rows w s.size s.wide s.agree t small r₁

@@ -1,7 +1,7 @@
 -- Every run keeps the laws. Assumes nothing.
-use Rattle.std.proofs.Common.{◌≡◌, ℕ, ◌+◌, ◌<◌, ◌≤◌, Bool, true, false, cond, not, ◌&&◌, ◌||◌, ◌⊎◌, List, [], ◌∷◌, ◌++◌, length, get_or, replicate, sym, refl, ap, ◌∙◌, subst, inl, inr, arith}
+use Rattle.std.proofs.Common.{◌≡◌, ℕ, ◌<◌, ◌≤◌, Bool, true, false, ◌||◌, ◌⊎◌, List, [], ◌∷◌, ◌++◌, length, sym, refl, ap, ◌∙◌, subst, inl, inr, arith}
 use Rattle.std.proofs.lemmas.List.{append_assoc, append-nil, get_or_past}
-use Rattle.std.proofs.lemmas.Bool.{cases_lt, cases_Bool, or_cases, or_parts, or_left, or_right, true≢false}
+use Rattle.std.proofs.lemmas.Bool.{cases_lt, or_cases, or_parts, or_left, or_right, true≢false}
 use Rattle.std.proofs.lemmas.Bool.Decides.{nat_tests}
 use Rattle.types.specs.declared.Direction.{Direction}
 use Rattle.types.specs.declared.Direction.TheVariants.{Read, Write}
@@ -12,15 +12,15 @@ use Rattle.rules.specs.declared.Phase.{Phase}
 use Rattle.rules.specs.declared.Phase.TheVariants.{Out, Queued, Holding}
 use Rattle.rules.specs.Locks.{Lock, fresh_lock, out_row, phase_of}
 use Rattle.rules.specs.Steps.{after, has_writer}
-use Rattle.rules.specs.Runs.{Lawful, Call, Event, seen_of, answer_to, events, lock_after, came, takes, LastAt, Holds, IsQueued, IsOwing, LastClaim, HoldsTo, WaitsSince, turns_seen, patience, RunLaws, MadeLocksAreSafe}
+use Rattle.rules.specs.Runs.{Lawful, Call, Event, seen_of, answer_to, events, lock_after, Holds, IsQueued, IsOwing, LastClaim, HoldsTo, WaitsSince, turns_seen, patience, RunLaws, MadeLocksAreSafe}
 use Rattle.rules.proofs.Tally.{tally_has, tally_some, tally_only}
-use Rattle.rules.proofs.Rows.{holds_to, queued_to, owes, total, reads, writes, owing, phase_fresh}
+use Rattle.rules.proofs.Rows.{holds_to, queued_to, total, reads, writes, owing, phase_fresh}
 use Rattle.rules.proofs.Entries.{has_entry}
 use Rattle.rules.proofs.Sound.{Sound, sound_fresh}
-use Rattle.rules.proofs.Went.{Agrees, Patient, ahead}
+use Rattle.rules.proofs.Went.{Agrees, Patient}
 use Rattle.rules.proofs.Agree.{agrees_fresh, agrees_step, holding_law, queued_law, owing_law}
 use Rattle.rules.proofs.Overtake.{patient_fresh, patient_step}
-use Rattle.rules.proofs.Step.{Kept, step_kept}
+use Rattle.rules.proofs.Step.{step_kept}
 
 record Inv (z : Sizes) (es : List Event) (l : Lock) : Type 0 where
   pub sound : Sound z l.rows l.word l.queue

@@ -1,5 +1,5 @@
 -- Every call of a run keeps what holds of a lock, and does what a call can do. Assumes nothing.
-use Rattle.std.proofs.Common.{◌≡◌, ℕ, zero, suc, ◌+◌, ◌-◌, ◌%◌, ◌<◌, ◌≤◌, Bool, true, false, cond, not, ◌&&◌, ◌||◌, eqb, ltb, leb, ◌⊎◌, List, [], ◌∷◌, ◌++◌, length, get_or, set, Some, None, Option, sym, refl, ap, ◌∙◌, subst, inl, inr, arith}
+use Rattle.std.proofs.Common.{◌≡◌, ℕ, ◌+◌, ◌-◌, ◌<◌, ◌≤◌, true, false, cond, not, ◌&&◌, ◌||◌, eqb, ltb, leb, List, [], ◌∷◌, length, get_or, set, Some, None, Option, sym, refl, ap, ◌∙◌, subst, inl, inr, arith}
 use Rattle.std.proofs.lemmas.Bool.{cases_eq, cases_Bool, eq-eqb, ne_eqb, eqb-true, leb-false, and_parts, and_from, or_parts, cond-true, cond-false, cond_both, lt-ltb, true≢false, not-true, not-false}
 use Rattle.std.proofs.lemmas.Bool.Decides.{nat_tests}
 use Rattle.types.specs.Numbers.{outcome_number}
@@ -9,26 +9,26 @@ use Rattle.types.specs.declared.Entry.{Entry}
 use Rattle.types.specs.declared.Verb.{Verb}
 use Rattle.types.specs.declared.Verb.TheVariants.{ClaimRead, ClaimWrite, Move, Leave}
 use Rattle.types.specs.declared.Outcome.{Outcome}
-use Rattle.types.specs.declared.Outcome.TheVariants.{Claimed, Granted, Again, ToQueueLock, HasQueueLock, Busy, Queued as QueuedUp, Out as LeftOut, Owes, Passed}
+use Rattle.types.specs.declared.Outcome.TheVariants.{Claimed, Granted, Again, ToQueueLock, HasQueueLock, Busy, Out as LeftOut, Owes, Passed}
 use Rattle.types.specs.declared.Refusal.{Refusal}
 use Rattle.types.specs.declared.Refusal.TheVariants.{NotMade, NoSuchTask, NoticesFull, ArchiveFull}
-use Rattle.word.specs.Words.{Sizes, Word, count, counted, marked, all_zero, can_enter_to_read, enter_to_read, can_enter_to_write, can_leave_reading, leave_reading, can_leave_writing, leave_writing, mark_waiters, pass_to_writer, pass_to_readers}
+use Rattle.word.specs.Words.{Sizes, Word, count, counted, marked, all_zero, can_enter_to_read, can_enter_to_write, can_leave_reading, leave_reading, can_leave_writing, leave_writing, mark_waiters, pass_to_writer, pass_to_readers}
 use Rattle.queue.specs.Queues.{is_reader, has_reader, has_task, can_join, placed, join, readers_are_neighbours}
 use Rattle.rules.specs.declared.Phase.{Phase}
 use Rattle.rules.specs.declared.Phase.TheVariants.{Out, Claiming, AtQueueLock, Queueing, Queued, Holding, Owing, Passing}
 use Rattle.rules.specs.declared.Row.{Row}
 use Rattle.rules.specs.Locks.{Lock, out_row, row_of, phase_of, with_row, with_phase, with_word, with_queue, is_queue_locked}
-use Rattle.rules.specs.Steps.{Done, plain, Answer, refused, accepted, Room, group_of, can_enter, enter, one_more_attempt, attempted, granted, in_vain, queued_up, queue_lock_tried, has_writer, front_readers, behind_readers, admitted, holding_all, passed_to, passed_to_readers, passed, moved, claimed, gone, reader_gone, writer_gone, leaving, effect, unfit, recorded, step, after}
+use Rattle.rules.specs.Steps.{Done, plain, Answer, refused, Room, group_of, can_enter, enter, one_more_attempt, granted, in_vain, queued_up, queue_lock_tried, has_writer, front_readers, behind_readers, admitted, passed_to, passed_to_readers, passed, moved, claimed, gone, reader_gone, writer_gone, leaving, effect, unfit, recorded, after}
 use Rattle.rules.specs.Runs.{Lawful, Seen, Call, seen_of, answer_to, claims_to}
-use Rattle.rules.proofs.Tally.{bit, tally_has}
-use Rattle.rules.proofs.Rows.{phase_in, is_same_way, holds_to, queued_to, owes, total, reads, writes, owing, reads_in, phase_here, phase_there, phase_set}
-use Rattle.rules.proofs.Counts.{Counted, zero_none, none_zero, group_below, count_wide}
+use Rattle.rules.proofs.Tally.{tally_has}
+use Rattle.rules.proofs.Rows.{phase_in, is_same_way, holds_to, queued_to, owes, writes, owing, reads_in, phase_here, phase_there, phase_set}
+use Rattle.rules.proofs.Counts.{zero_none, none_zero, group_below, count_wide}
 use Rattle.rules.proofs.Change
 use Rattle.rules.proofs.Entries.{front_behind, front_reads, behind_writes}
 use Rattle.rules.proofs.Sound.{Sound, Idle, sound_neutral, sound_enter_read, sound_enter_write, sound_leave_read, sound_owe_read, sound_leave_write, sound_owe_write, sound_join, may_join}
 use Rattle.rules.proofs.Admit.{holding_rows, holding_all_lem}
 use Rattle.rules.proofs.Pass.{front_all, readers_in_lem, sound_pass_read, sound_pass_write, writer_ready}
-use Rattle.rules.proofs.Went.{Onward, claims, granted_at_once, granted_late, goes_again, goes_to_lock, locks_to_queue, locks_to_pass, busy_to_queue, busy_to_pass, leaves, comes_to_owe, Moved, HandedOver, all_to, Front, plainly, Went, nowhere, onward, queues, passes}
+use Rattle.rules.proofs.Went.{Onward, claims, granted_at_once, granted_late, goes_again, goes_to_lock, locks_to_queue, locks_to_pass, busy_to_queue, busy_to_pass, leaves, comes_to_owe, Moved, Went, nowhere, onward, queues, passes}
 
 pub record Kept (z : Sizes) (t : ℕ) (verb : Verb) (s : Option Seen) (l l' : Lock) : Type 0 where
   pub went : Went t verb s l l'

@@ -1,5 +1,5 @@
 -- What one call of a task does to the phases and the queue, and what is seen of it. Assumes nothing.
-use Rattle.std.proofs.Common.{◌≡◌, ℕ, ◌+◌, ◌≤◌, Bool, true, false, cond, ◌&&◌, ◌||◌, eqb, ◌⊎◌, List, [], ◌∷◌, ◌++◌, length, Some, None, Option}
+use Rattle.std.proofs.Common.{◌≡◌, ℕ, ◌+◌, ◌≤◌, Bool, true, false, cond, ◌&&◌, ◌||◌, eqb, List, [], ◌∷◌, ◌++◌, length, Some, None, Option}
 use Rattle.types.specs.Numbers.{outcome_number}
 use Rattle.types.specs.declared.Direction.{Direction}
 use Rattle.types.specs.declared.Direction.TheVariants.{Read, Write}
@@ -7,7 +7,7 @@ use Rattle.types.specs.declared.Entry.{Entry}
 use Rattle.types.specs.declared.Verb.{Verb}
 use Rattle.types.specs.declared.Outcome.{Outcome}
 use Rattle.types.specs.declared.Outcome.TheVariants.{Claimed, Granted, Again, ToQueueLock, HasQueueLock, Busy, Queued as QueuedUp, Out as LeftOut, Owes, Passed}
-use Rattle.queue.specs.Queues.{is_reader, has_reader, has_task, placed}
+use Rattle.queue.specs.Queues.{has_reader, has_task, placed}
 use Rattle.rules.specs.declared.Phase.{Phase}
 use Rattle.rules.specs.declared.Phase.TheVariants.{Out, Claiming, AtQueueLock, Queueing, Queued, Holding, Owing, Passing}
 use Rattle.rules.specs.Locks.{Lock, phase_of}

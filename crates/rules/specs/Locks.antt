@@ -1,6 +1,5 @@
 -- What a lock means. Assumes nothing.
 use Rattle.std.specs.Prelude.{ℕ, Bool, true, false, ◌||◌, List, [], ◌∷◌, replicate, slice_index_or, slice_set}
-use Rattle.types.specs.declared.Direction.{Direction}
 use Rattle.types.specs.declared.Entry.{Entry}
 use Rattle.word.specs.Words.{Sizes, Word, fresh_word}
 use Rattle.rules.specs.declared.Phase.{Phase}

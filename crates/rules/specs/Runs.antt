@@ -12,7 +12,7 @@ use Rattle.word.specs.Words.{Sizes, tasks_in_group}
 use Rattle.rules.specs.declared.Phase.{Phase}
 use Rattle.rules.specs.declared.Phase.TheVariants.{Queued, Holding, Owing, Passing}
 use Rattle.rules.specs.Locks.{Lock, fresh_lock, phase_of}
-use Rattle.rules.specs.Steps.{Room, Done, Answer, refused, accepted, step, after}
+use Rattle.rules.specs.Steps.{Room, Answer, refused, accepted, step, after}
 
 -- A call with the free places of the rings at that time.
 pub record Call : Type 0 where

@@ -1,5 +1,5 @@
 -- What each call answers and leaves. Assumes nothing.
-use Rattle.std.specs.Prelude.{ℕ, ◌+◌, ◌%◌, min, Bool, true, false, cond, not, ◌&&◌, ◌||◌, List, [], ◌∷◌, ◌++◌, map, length, Some, None, Ok, Err, Option, Result, ◌==◌, nat_le, nat_lt}
+use Rattle.std.specs.Prelude.{ℕ, ◌+◌, ◌%◌, min, Bool, false, cond, not, ◌&&◌, ◌||◌, List, [], ◌∷◌, length, Some, None, Ok, Err, Option, Result, ◌==◌, nat_le, nat_lt}
 use Rattle.types.specs.declared.Direction.{Direction}
 use Rattle.types.specs.declared.Direction.TheVariants.{Read, Write}
 use Rattle.types.specs.declared.Entry.{Entry}
@@ -13,7 +13,6 @@ use Rattle.word.specs.Words.{Sizes, Word, all_zero, can_enter_to_read, enter_to_
 use Rattle.queue.specs.Queues.{is_reader, has_reader, join}
 use Rattle.rules.specs.declared.Phase.{Phase}
 use Rattle.rules.specs.declared.Phase.TheVariants.{Out, Claiming, AtQueueLock, Queueing, Queued, Holding, Owing, Passing}
-use Rattle.rules.specs.declared.Row.{Row}
 use Rattle.rules.specs.Locks.{Lock, fresh_lock, row_of, phase_of, with_row, with_phase, with_word, with_queue, is_queue_locked}
 
 -- What an accepted call came to: its outcome, the tasks taken in queue order, and the lock afterwards.

@@ -1,4 +1,4 @@
-use Rattle.std.proofs.Common.{◌≡◌, sym, refl, ap, ◌∙◌, rules}
+use Rattle.std.proofs.Common.{refl, rules}
 use Rattle.ring.specs.HeldOf.{held_of}
 use Rattle.lock.specs.Meaning.{lock_of}
 use Rattle.lock.specs.Answers.{archive_room}

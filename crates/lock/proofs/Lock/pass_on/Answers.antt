@@ -1,4 +1,4 @@
-use Rattle.std.proofs.Common.{◌≡◌, ℕ, ◌≤◌, map, length, sym, refl, ap, ◌∙◌, arith, rules}
+use Rattle.std.proofs.Common.{◌≡◌, ℕ, map, length, sym, refl, ap, ◌∙◌, arith, rules}
 use Rattle.queue.proofs.Sizes.{at_most_64}
 use Rattle.lock.specs.Meaning.{lock_of}
 use Rattle.types.specs.declared.Verb.TheVariants.{Move}

@@ -1,4 +1,4 @@
-use Rattle.std.proofs.Common.{◌≡◌, sym, ap, ◌∙◌}
+use Rattle.std.proofs.Common.{sym, ◌∙◌}
 use Rattle.lock.proofs.Fronts.{front_all}
 use Rattle.lock.proofs.pass.waiting.front_readers.Goals as goal
 

@@ -1,4 +1,4 @@
-use Rattle.std.proofs.Common.{ltb, length, sym, ap, ◌∙◌}
+use Rattle.std.proofs.Common.{ltb, sym, ap, ◌∙◌}
 use Rattle.queue.proofs.Readers.{writer_some}
 use Rattle.lock.proofs.Fronts.{writer_same}
 use Rattle.lock.proofs.pass.waiting.writers_wait.Goals as goal

@@ -1,8 +1,8 @@
-use Rattle.std.proofs.Common.{◌≡◌, ◌<◌, true, false, length, sym, refl, ap, ◌∙◌, arith, rules}
+use Rattle.std.proofs.Common.{◌<◌, length, sym, refl, ap, ◌∙◌, arith, rules}
 use Rattle.std.proofs.lemmas.List.{length-set}
 use Rattle.std.proofs.lemmas.Bool.{le-leb, lt-leb}
 use Rattle.rules.specs.Locks.{has_queue_lock}
-use Rattle.rules.specs.Steps.{granted, in_vain}
+use Rattle.rules.specs.Steps.{in_vain}
 use Rattle.lock.specs.Meaning.{lock_of}
 use Rattle.lock.proofs.Keys.{keyed_stays}
 use Rattle.lock.proofs.Afterwards.{granted_is, again_is, to_lock_is}
