@@ -1,8 +1,10 @@
-// Refusals, blank locks and a hand-over, run on every pair of a lock word and a wait queue, and the size of a lock.
+// Refusals, blank locks and a hand-over, run on every pair of a lock word and a wait queue; more refusals on one pair; the size of a lock.
 #![tactic(auto)]
 
 #[cfg(test)]
 mod blanks;
+#[cfg(test)]
+mod first_that_fits;
 #[cfg(test)]
 mod hand_over;
 #[cfg(test)]

@@ -6,6 +6,22 @@ use std::process::Abort;
 use types::{Direction, Entry, Refusal};
 use word::LockWord;
 
+// A making is refused, and nothing alters.
+pub(crate) fn no_making<W: LockWord + Drop, Q: WaitQueue + Drop>(
+    rt: &impl Abort,
+    lock: &mut Lock<W, Q>,
+    tasks: u32,
+    spin: u32,
+    archive: &mut Ring<u32>,
+    refusal: Refusal,
+) {
+    let phase = lock.phase(0);
+    let free = archive.free();
+    assert_eq!(rt; lock.make(tasks, spin, archive), Err(refusal));
+    assert_eq!(rt; lock.phase(0), phase);
+    assert_eq!(rt; archive.free(), free);
+}
+
 // A claim is refused, and nothing alters.
 pub(crate) fn no_claim<W: LockWord + Drop, Q: WaitQueue + Drop>(
     rt: &impl Abort,
