@@ -1,23 +1,51 @@
 // The plain values that every layer speaks of: directions, entries, verbs, outcomes and refusals, each with its number.
 #![tactic(auto)]
 
-ghost use Rattle.std.specs.Prelude.{◌≡◌};
-ghost use Rattle.types.specs.Numbers.{direction_number, verb_number, outcome_number, outcome_value, refusal_number};
+ghost use Rattle.std.specs.Prelude.{◌≡◌, ◌++◌, Some, codes, decimal};
+ghost use Rattle.types.specs.Numbers.{direction_number, verb_number, outcome_number, outcome_value, refusal_number, IsNumbered};
+
+use std::error::Error;
+use std::fmt;
 
 // What a task wants of the table of settings.
 #[derive(Clone, Copy, PartialEq, Eq, Debug)]
 pub enum Direction {
-    Read,
-    Write,
+    Read = 0,
+    Write = 1,
 }
 
 impl Direction {
     pub fn number(self) -> u32
         ensures { result ≡ direction_number self }
     {
-        match self {
-            Direction::Read => 0,
-            Direction::Write => 1,
+        self as u32
+    }
+}
+
+// A number that no direction or verb has.
+#[derive(Clone, Copy, PartialEq, Eq, Debug)]
+pub struct UnknownNumber(pub u32);
+
+impl fmt::Display for UnknownNumber {
+    ghost output = { λ unknown. Some (codes "nothing has the number " ++ decimal unknown.0) };
+
+    fn fmt<W: fmt::Write>(&self, f: &mut fmt::Formatter<W>) -> fmt::Result {
+        write!(f, "nothing has the number {}", self.0)
+    }
+}
+
+impl Error for UnknownNumber {}
+
+impl TryFrom<u32> for Direction {
+    type Error = UnknownNumber;
+
+    ghost try_from_gives = { IsNumbered direction_number };
+
+    fn try_from(number: u32) -> Result<Self, UnknownNumber> {
+        match number {
+            0 => Ok(Direction::Read),
+            1 => Ok(Direction::Write),
+            _ => Err(UnknownNumber(number)),
         }
     }
 }
@@ -32,21 +60,32 @@ pub struct Entry {
 // What a task asks of the lock.
 #[derive(Clone, Copy, PartialEq, Eq, Debug)]
 pub enum Verb {
-    ClaimRead,
-    ClaimWrite,
-    Move,
-    Leave,
+    ClaimRead = 1,
+    ClaimWrite = 2,
+    Move = 3,
+    Leave = 4,
 }
 
 impl Verb {
     pub fn number(self) -> u32
         ensures { result ≡ verb_number self }
     {
-        match self {
-            Verb::ClaimRead => 1,
-            Verb::ClaimWrite => 2,
-            Verb::Move => 3,
-            Verb::Leave => 4,
+        self as u32
+    }
+}
+
+impl TryFrom<u32> for Verb {
+    type Error = UnknownNumber;
+
+    ghost try_from_gives = { IsNumbered verb_number };
+
+    fn try_from(number: u32) -> Result<Self, UnknownNumber> {
+        match number {
+            1 => Ok(Verb::ClaimRead),
+            2 => Ok(Verb::ClaimWrite),
+            3 => Ok(Verb::Move),
+            4 => Ok(Verb::Leave),
+            _ => Err(UnknownNumber(number)),
         }
     }
 }
@@ -67,6 +106,7 @@ pub enum Outcome {
 }
 
 impl Outcome {
+    // No cast gives the number of a variant that holds a value.
     pub fn number(self) -> u32
         ensures { result ≡ outcome_number self }
     {
@@ -140,3 +180,14 @@ impl Refusal {
         self as u8
     }
 }
+
+// A refusal is printed as its number.
+impl fmt::Display for Refusal {
+    ghost output = { λ refusal. Some (decimal (refusal_number refusal)) };
+
+    fn fmt<W: fmt::Write>(&self, f: &mut fmt::Formatter<W>) -> fmt::Result {
+        self.number().fmt(f)
+    }
+}
+
+impl Error for Refusal {}
