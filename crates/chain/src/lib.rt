@@ -2,20 +2,29 @@
 // joins without a search.
 #![tactic(auto)]
 
-ghost use Rattle.chain.specs.Walks.{Laws, Agrees, held};
+ghost use Rattle.std.specs.Prelude.{◌≡◌, true, length};
+ghost use Rattle.queue.specs.Queues.{reader_count, tasks_in_range, no_task_twice, readers_are_neighbours};
+ghost use Rattle.chain.specs.Walks.{Present, ends_after, held, last_task, last_reader_of};
 ghost use Rattle.std.proofs.Common.{rules};
 
 mod places;
 
-use places::{Links, NONE, PLACES, Place};
+use places::{Links, PLACES};
 use queue::WaitQueue;
 use types::{Direction, Entry};
 
 #[derive(Clone, Copy)]
 pub struct Chain {
     links: Links,
-    ghost laws: { Laws (held links) },
-    ghost agrees: { Agrees links },
+    ghost in_range: { tasks_in_range (held links) ≡ true },
+    ghost none_twice: { no_task_twice (held links) ≡ true },
+    ghost neighbours: { readers_are_neighbours (held links) ≡ true },
+    ghost full: { length links.places ≡ 64 },
+    ghost present: { Present links.places (held links) },
+    ghost ends: { ends_after links.places links.head links.len ≡ true },
+    ghost tail: { links.tail ≡ last_task (held links) },
+    ghost last_reader: { links.last_reader ≡ last_reader_of (held links) },
+    ghost readers: { links.readers ≡ reader_count (held links) },
 }
 
 impl WaitQueue for Chain {
@@ -28,16 +37,11 @@ impl WaitQueue for Chain {
     ghost neighbours = { Prim.search rules };
 
     fn fresh() -> Chain {
-        let blank = Place {
-            next: NONE,
-            direction: Direction::Read,
-            present: false,
-        };
         let links = Links {
-            places: [blank; PLACES],
-            head: NONE,
-            tail: NONE,
-            last_reader: NONE,
+            places: [None; PLACES],
+            head: None,
+            tail: None,
+            last_reader: None,
             readers: 0,
             len: 0,
         };
@@ -45,29 +49,27 @@ impl WaitQueue for Chain {
     }
 
     fn join(&mut self, task: u32, direction: Direction) -> bool {
-        let place = task as usize;
-        if place >= PLACES || self.links.places[place].present {
+        if !self.links.is_free(task) {
             return false;
         }
-        self.links.join(task as u8, direction);
+        let task = task as u8;
+        let behind = self.links.goes_behind(direction);
+        self.links.link(behind, task, direction);
+        self.links.remember(behind, task, direction);
         true
     }
 
     fn first(&self) -> Option<Entry> {
-        if self.links.len == 0 {
-            return None;
-        }
-        let task = self.links.head;
-        let direction = self.links.places[task as usize].direction;
-        Some(Entry { task, direction })
+        self.links.entry(self.links.head)
     }
 
     fn take_first(&mut self) -> Option<Entry> {
         let entry = self.first()?;
-        self.links.unlink_first();
+        self.links.unlink_first(entry);
         Some(entry)
     }
 
+    #[tactic(auto, using(crate::proofs::Walks::walk_length))]
     fn len(&self) -> u32 {
         self.links.len as u32
     }
@@ -77,21 +79,17 @@ impl WaitQueue for Chain {
     }
 
     fn entry_at(&self, place: u32) -> Option<Entry> {
-        if place >= self.links.len as u32 {
+        if place >= self.len() {
             return None;
         }
-        let mut task = self.links.head;
-        let mut left = place;
         // The last is known without a walk.
-        if place + 1 == self.links.len as u32 {
-            task = self.links.tail;
-            left = 0;
+        if place + 1 == self.len() {
+            return self.links.entry(self.links.tail);
         }
-        while left > 0 {
-            task = self.links.places[task as usize].next;
-            left -= 1;
+        let mut link = self.links.head;
+        for _ in 0..place {
+            link = self.links.next(link);
         }
-        let direction = self.links.places[task as usize].direction;
-        Some(Entry { task, direction })
+        self.links.entry(link)
     }
 }

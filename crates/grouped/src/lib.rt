@@ -40,15 +40,14 @@ pub struct Grouped {
 fn all_zero(counts: &[u16]) -> bool
     ensures { result ≡ all_zero counts.now }
 {
-    for n in counts {
-        if *n != 0 {
-            return false;
-        }
-    }
-    true
+    counts.iter().all(|n| *n == 0)
 }
 
 impl LockWord for Grouped {
+    ghost GROUPS = { 8 };
+
+    ghost LIMIT = { 65535 };
+
     const GROUPS: u32 = 8;
 
     const LIMIT: u32 = 65_535;
@@ -56,6 +55,10 @@ impl LockWord for Grouped {
     ghost sizes = { grouped_sizes };
 
     ghost meaning = { λ w. grouped_word w.marks.locked w.marks.writers_wait w.marks.readers_wait w.counts };
+
+    ghost group_count = { Prim.search rules };
+
+    ghost count_limit = { Prim.search rules };
 
     ghost some_groups = { Prim.search rules };
 
@@ -67,26 +70,11 @@ impl LockWord for Grouped {
 
     ghost ample_limit = { λ g. let few = tasks_below_le grouped_sizes.groups g 64 in omega arith };
 
-    fn group_count() -> u32 {
-        Self::GROUPS
-    }
-
-    fn count_limit() -> u32 {
-        Self::LIMIT
-    }
-
     fn fresh() -> Grouped {
         Grouped {
             marks: OFF,
             counts: [0; 8],
         }
-    }
-
-    fn enter_to_read(&mut self, group: u32) -> bool {
-        if self.marks.writers_wait {
-            return false;
-        }
-        self.admit_reader(group)
     }
 
     fn enter_to_write(&mut self) -> bool {

@@ -1,7 +1,7 @@
 // The packed word: three marks and one reader count in 32 bits.
 #![tactic(auto)]
 
-ghost use Rattle.std.specs.Prelude.{◌≡◌, Bool, cond, ◌%◌, ◌^◌};
+ghost use Rattle.std.specs.Prelude.{◌≡◌, Bool, cond, ◌/◌, ◌%◌, ◌^◌, ◌<◌, ◌==◌};
 ghost use Rattle.packed.specs.Unpacked.{packed_sizes, unpacked};
 ghost use Rattle.std.proofs.Common.{arith, rules};
 ghost use Rattle.word.proofs.Groups.{tasks_below_le};
@@ -31,6 +31,14 @@ impl Packed {
         bits
     }
 
+    // Whether a mark is on.
+    fn has(&self, mark: u32) -> bool
+        requires { 0 < mark }
+        ensures { result ≡ (self.now.bits / mark % 2 == 1) }
+    {
+        self.bits / mark % 2 == 1
+    }
+
     fn readers(&self) -> u32
         ensures { result ≡ self.now.bits % 2 ^ 29 }
     {
@@ -45,6 +53,10 @@ fn mark_if(on: bool, mark: u32) -> u32
 }
 
 impl LockWord for Packed {
+    ghost GROUPS = { 1 };
+
+    ghost LIMIT = { 536870911 };
+
     const GROUPS: u32 = 1;
 
     const LIMIT: u32 = COUNT;
@@ -52,6 +64,10 @@ impl LockWord for Packed {
     ghost sizes = { packed_sizes };
 
     ghost meaning = { λ w. unpacked w.bits };
+
+    ghost group_count = { Prim.search rules };
+
+    ghost count_limit = { Prim.search rules };
 
     ghost some_groups = { Prim.search rules };
 
@@ -63,28 +79,8 @@ impl LockWord for Packed {
 
     ghost ample_limit = { λ g. let few = tasks_below_le packed_sizes.groups g 64 in omega arith };
 
-    fn group_count() -> u32 {
-        Self::GROUPS
-    }
-
-    fn count_limit() -> u32 {
-        Self::LIMIT
-    }
-
     fn fresh() -> Packed {
         Packed { bits: 0 }
-    }
-
-    fn enter_to_read(&mut self, group: u32) -> bool {
-        if group >= Self::GROUPS
-            || self.is_locked()
-            || self.writers_wait()
-            || self.readers() >= Self::LIMIT
-        {
-            return false;
-        }
-        self.bits += 1;
-        true
     }
 
     fn enter_to_write(&mut self) -> bool {
@@ -147,15 +143,15 @@ impl LockWord for Packed {
     }
 
     fn is_locked(&self) -> bool {
-        self.bits / W_LOCKED % 2 == 1
+        self.has(W_LOCKED)
     }
 
     fn writers_wait(&self) -> bool {
-        self.bits / W_WAITERS % 2 == 1
+        self.has(W_WAITERS)
     }
 
     fn readers_wait(&self) -> bool {
-        self.bits / R_WAITERS % 2 == 1
+        self.has(R_WAITERS)
     }
 
     fn count(&self, group: u32) -> u32 {

@@ -1,10 +1,12 @@
 -- What reading, pushing and taking make of the tasks in a strip. Assumes nothing.
-use Rattle.std.proofs.Common.{◌≡◌, ℕ, suc, ◌+◌, ◌-◌, ◌%◌, ◌<◌, ◌≤◌, List, [], ◌∷◌, ◌++◌, length, get_or, take, drop, set, sym, ap, ◌∙◌, arith}
+use Rattle.std.proofs.Common.{◌≡◌, ℕ, suc, ◌+◌, ◌-◌, ◌%◌, ◌<◌, ◌≤◌, List, [], ◌∷◌, ◌++◌, length, get_or, take, drop, set, None, Some, sym, ap, ◌∙◌, arith}
+use Rattle.std.specs.List.{slice_get}
 use Rattle.std.proofs.lemmas.List.{length-take-le, get_or-take, set-get_or, take-append-le, take_more_set}
+use Rattle.std.proofs.lemmas.Option.{slice_get-get_or, slice_get_past}
 use Rattle.std.proofs.lemmas.Bool.Decides.{nat_tests}
-use Rattle.strips.specs.declared.strip.Strip.{Strip}
+use Rattle.strips.specs.declared.strip.Strip.TheInside.{Inside}
 use Rattle.ring.specs.Held.{turned, behind, next}
-use Rattle.strips.specs.Tasks.{tasks_of}
+use Rattle.strips.specs.Tasks.{tasks_of, IsRound}
 use Rattle.ring.proofs.Turned.{length_turned, turned_read, turned_write, turned_first, turned_step}
 
 -- The remainder by 64 goes around in a list of 64 places.
@@ -14,26 +16,6 @@ behind_64 m k n full start count = grind (arith, nat_tests)
 next_64 : (m k : ℕ) → m ≡ 64 → k < 64 → next m k ≡ (k + 1) % 64
 next_64 m k full start = grind (arith, nat_tests)
 
-whole : (s : Strip) → length (turned s.tasks s.start) ≡ 64
-whole s = length_turned s.tasks s.start (omega arith) ∙ s.places
-
-pub length_tasks : (s : Strip) → length (tasks_of s) ≡ s.len
-unfolding tasks_of
-length_tasks s = length-take-le s.len (turned s.tasks s.start) (omega (arith, whole s))
-
-pub content_at : (s : Strip) (n : ℕ) → n < s.len → get_or s.tasks ((s.start + n) % 64) 0 ≡ get_or (tasks_of s) n 0
-unfolding tasks_of
-content_at s n within =
-    let place = behind_64 (length s.tasks) s.start n s.places (omega arith) (omega arith) in
-    sym (get_or-take s.len (turned s.tasks s.start) n 0 within ∙ turned_read s.tasks s.start n 0 (omega arith) (omega arith) ∙ ap (λ i. get_or s.tasks i 0) place)
-
-pub content_push : (s : Strip) (x : ℕ) → s.len < 64 → take (s.len + 1) (turned (set s.tasks ((s.start + s.len) % 64) x) s.start) ≡ tasks_of s ++ (x ∷ [])
-unfolding tasks_of
-content_push s x room =
-    let place = behind_64 (length s.tasks) s.start s.len s.places (omega arith) (omega arith) in
-    let written = ap (λ i. turned (set s.tasks i x) s.start) (sym place) ∙ turned_write s.tasks s.start s.len x (omega arith) (omega arith) in
-    ap (take (s.len + 1)) written ∙ take_more_set (turned s.tasks s.start) s.len x (omega (arith, whole s))
-
 -- The first n of a list are its first, and then the first n - 1 of what it is turned by one place.
 take_turned : {X : Type 0} (n : ℕ) (x : X) (l : List X) → 0 < n → n ≤ length l + 1 → take n (x ∷ l) ≡ x ∷ take (n - 1) (l ++ (x ∷ []))
 take_turned n x l some fits =
@@ -41,13 +23,44 @@ take_turned n x l some fits =
     let more : n ≡ suc (n - 1) = omega arith in
     ap (λ i. take i (x ∷ l)) more ∙ ap (λ r. x ∷ r) (sym (take-append-le (n - 1) l (x ∷ []) less))
 
-pub content_take : (s : Strip) → 0 < s.len → tasks_of s ≡ get_or s.tasks s.start 0 ∷ take (s.len - 1) (turned s.tasks ((s.start + 1) % 64))
-unfolding tasks_of
-content_take s some =
-    let x = get_or s.tasks s.start 0 in
-    let others : List ℕ = drop (s.start + 1) s.tasks ++ take s.start s.tasks in
-    let first = turned_first s.tasks s.start 0 (omega arith) in
-    let count : s.len ≤ length others + 1 = omega (arith, ap length first, whole s) in
-    let place = next_64 (length s.tasks) s.start s.places (omega arith) in
-    let stepped : turned s.tasks ((s.start + 1) % 64) ≡ others ++ (x ∷ []) = ap (turned s.tasks) (sym place) ∙ ap (λ l. turned l (next (length s.tasks) s.start)) (sym (set-get_or s.tasks s.start 0)) ∙ turned_step s.tasks s.start x (omega arith) in
-    ap (take s.len) first ∙ take_turned s.len x others some count ∙ ap (λ l. x ∷ take (s.len - 1) l) (sym stepped)
+module _ (s : Inside) (round : IsRound s) where
+  whole : length (turned s.tasks s.start) ≡ 64
+  whole = length_turned s.tasks s.start (omega (arith, round.places, round.inside)) ∙ round.places
+
+  pub length_tasks : length (tasks_of s) ≡ s.len
+  unfolding tasks_of
+  length_tasks = length-take-le s.len (turned s.tasks s.start) (omega (arith, whole, round.fits))
+
+  content_at : (n : ℕ) → n < s.len → get_or (tasks_of s) n 0 ≡ get_or s.tasks ((s.start + n) % 64) 0
+  unfolding tasks_of
+  content_at n within =
+      let fits = round.fits in
+      let place = behind_64 (length s.tasks) s.start n round.places round.inside (omega arith) in
+      get_or-take s.len (turned s.tasks s.start) n 0 within ∙ turned_read s.tasks s.start n 0 (omega (arith, round.places, round.inside)) (omega (arith, round.places)) ∙ ap (λ i. get_or s.tasks i 0) place
+
+  pub content_get : (n : ℕ) → n < s.len → Some (get_or s.tasks ((s.start + n) % 64) 0) ≡ slice_get (tasks_of s) n
+  content_get n within =
+      sym (slice_get-get_or (tasks_of s) n 0 (omega (arith, length_tasks)) ∙ ap (λ t. Some t) (content_at n within))
+
+  pub content_past : (n : ℕ) → s.len ≤ n → None ≡ slice_get (tasks_of s) n
+  content_past n past = sym (slice_get_past (tasks_of s) n (omega (arith, length_tasks)))
+
+  pub content_push : (x : ℕ) → s.len < 64 → tasks_of (record { tasks = set s.tasks ((s.start + s.len) % 64) x; start = s.start; len = s.len + 1 }) ≡ tasks_of s ++ (x ∷ [])
+  unfolding tasks_of
+  content_push x room =
+      let place = behind_64 (length s.tasks) s.start s.len round.places round.inside round.fits in
+      let written = ap (λ i. turned (set s.tasks i x) s.start) (sym place) ∙ turned_write s.tasks s.start s.len x (omega (arith, round.places, round.inside)) (omega (arith, round.places)) in
+      ap (take (s.len + 1)) written ∙ take_more_set (turned s.tasks s.start) s.len x (omega (arith, whole))
+
+  pub content_take : 0 < s.len → tasks_of (record { tasks = s.tasks; start = (s.start + 1) % 64; len = s.len - 1 }) ≡ drop 1 (tasks_of s)
+  unfolding tasks_of
+  content_take some =
+      let x = get_or s.tasks s.start 0 in
+      let others : List ℕ = drop (s.start + 1) s.tasks ++ take s.start s.tasks in
+      let inside : s.start < length s.tasks = omega (arith, round.places, round.inside) in
+      let first = turned_first s.tasks s.start 0 inside in
+      let count : s.len ≤ length others + 1 = omega (arith, ap length first, whole, round.fits) in
+      let place = next_64 (length s.tasks) s.start round.places round.inside in
+      let stepped : turned s.tasks ((s.start + 1) % 64) ≡ others ++ (x ∷ []) = ap (turned s.tasks) (sym place) ∙ ap (λ l. turned l (next (length s.tasks) s.start)) (sym (set-get_or s.tasks s.start 0)) ∙ turned_step s.tasks s.start x inside in
+      let taken : take s.len (turned s.tasks s.start) ≡ x ∷ take (s.len - 1) (turned s.tasks ((s.start + 1) % 64)) = ap (take s.len) first ∙ take_turned s.len x others some count ∙ ap (λ l. x ∷ take (s.len - 1) l) (sym stepped) in
+      sym (ap (drop 1) taken)

@@ -1,4 +1,3 @@
 pub mod Content
 pub mod Lined
-pub mod Sections
 pub mod Flags

@@ -3,7 +3,7 @@
 
 ghost use Rattle.std.specs.Prelude.{◌≡◌, true, length};
 ghost use Rattle.queue.specs.Queues.{tasks_in_range, no_task_twice, readers_are_neighbours};
-ghost use Rattle.strips.specs.Entries.{entries_of, Flagged};
+ghost use Rattle.strips.specs.Flags.{Flagged};
 ghost use Rattle.std.proofs.Common.{rules};
 
 mod parts;
@@ -11,22 +11,23 @@ mod strip;
 
 use parts::Parts;
 use queue::WaitQueue;
+use strip::PLACES;
 use types::{Direction, Entry};
 
 // `present` tells of each task from 0 to 63 whether it is in the queue.
 #[derive(Drop)]
 pub struct Strips {
     parts: Parts,
-    present: [bool; 64],
+    present: [bool; PLACES],
     ghost flags: { length present ≡ 64 },
-    ghost in_range: { tasks_in_range (entries_of parts) ≡ true },
-    ghost none_twice: { no_task_twice (entries_of parts) ≡ true },
-    ghost neighbours: { readers_are_neighbours (entries_of parts) ≡ true },
-    ghost flagged: { Flagged present (entries_of parts) },
+    ghost in_range: { tasks_in_range parts ≡ true },
+    ghost none_twice: { no_task_twice parts ≡ true },
+    ghost neighbours: { readers_are_neighbours parts ≡ true },
+    ghost flagged: { Flagged present parts },
 }
 
 impl WaitQueue for Strips {
-    ghost entries = { λ q. entries_of q.parts };
+    ghost entries = { λ q. q.parts };
 
     ghost in_range = { Prim.search rules };
 
@@ -37,16 +38,17 @@ impl WaitQueue for Strips {
     fn fresh() -> Strips {
         Strips {
             parts: Parts::empty(),
-            present: [false; 64],
+            present: [false; PLACES],
         }
     }
 
     fn join(&mut self, task: u32, direction: Direction) -> bool {
-        if task >= 64 || self.present[task as usize] {
+        let place = task as usize;
+        if place >= PLACES || self.present[place] {
             return false;
         }
         self.parts.place(task as u8, direction);
-        self.present[task as usize] = true;
+        self.present[place] = true;
         true
     }
 
@@ -55,11 +57,9 @@ impl WaitQueue for Strips {
     }
 
     fn take_first(&mut self) -> Option<Entry> {
-        let first = self.parts.take_first();
-        if let Some(entry) = first {
-            self.present[entry.task as usize] = false;
-        }
-        first
+        let first = self.parts.take_first()?;
+        self.present[first.task as usize] = false;
+        Some(first)
     }
 
     fn len(&self) -> u32 {

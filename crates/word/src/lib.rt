@@ -8,8 +8,11 @@ ghost use Rattle.word.specs.Words.{Sizes, Word, count, tasks_in_group, fresh_wor
 use types::Direction;
 
 pub trait LockWord: Sized {
-    // The number of groups, and the greatest count of any group. Generic code learns nothing of a constant of the trait:
-    // it calls `group_count` and `count_limit`, which each kind answers by its own constant.
+    // The number of groups, and the greatest count of any group.
+    ghost GROUPS: { ℕ };
+
+    ghost LIMIT: { ℕ };
+
     const GROUPS: u32;
 
     const LIMIT: u32;
@@ -18,18 +21,16 @@ pub trait LockWord: Sized {
 
     ghost meaning: { Self → Word };
 
-    fn group_count() -> u32
-        ensures { result ≡ sizes.groups };
-
-    fn count_limit() -> u32
-        ensures { result ≡ sizes.limit };
-
     fn fresh() -> Self
         ensures { meaning result ≡ fresh_word sizes };
 
+    // A reader that comes is admitted as one that waits, unless a writer waits.
     fn enter_to_read(&mut self, group: u32) -> bool
         ensures answer { result ≡ can_enter_to_read sizes group (meaning self.old) }
-        ensures word { meaning self.new ≡ enter_to_read sizes group (meaning self.old) };
+        ensures word { meaning self.new ≡ enter_to_read sizes group (meaning self.old) }
+    {
+        !self.writers_wait() && self.admit_reader(group)
+    }
 
     fn enter_to_write(&mut self) -> bool
         ensures answer { result ≡ can_enter_to_write (meaning self.old) }
@@ -68,6 +69,10 @@ pub trait LockWord: Sized {
 
     fn count(&self, group: u32) -> u32
         ensures { result ≡ count group (meaning self.now) };
+
+    ghost group_count: { sizes.groups ≡ GROUPS };
+
+    ghost count_limit: { sizes.limit ≡ LIMIT };
 
     ghost some_groups: { 1 ≤ sizes.groups };
 

@@ -1,22 +1,13 @@
-use Rattle.std.proofs.Common.{◌≡◌, ◌+◌, ◌&&◌, eqb, get_or, drop, sym, ◌∙◌, arith}
-use Rattle.std.proofs.lemmas.List.{at_drop_more, at_drop_all}
-use Rattle.std.proofs.lemmas.Bool.Decides.{nat_tests}
+use Rattle.std.proofs.Common.{eqb, ◌&&◌, refl, ◌∙◌, rules}
+use Rattle.std.proofs.lemmas.Iterator.{YieldsList-from_slice}
+use Rattle.std.proofs.lemmas.Iterator.Search.{all_from_yields_List}
+use Rattle.std.proofs.lemmas.List.Recursion.{same_from_clauses}
+use Rattle.std.specs.List.{list_all}
+use borrow.Author.Tests.{tests}
 use Rattle.word.specs.Words.{all_zero}
 use Rattle.grouped.proofs.all_zero.Goals as goal
 
-pub loop-n-preserved : goal.loop-n-preserved
-loop-n-preserved c =
-    let xs = c.args.counts.now in
-    let i = c.loop-n.n-index in
-    let step : all_zero (drop i xs) ≡ (eqb (get_or xs i 0) 0 && all_zero (drop (i + 1) xs)) = at_drop_more all_zero xs i 0 c.loop-n-test.true in
-    grind (arith, nat_tests)
-
-pub returns-then-n-ne0 : goal.returns-then-n-ne0
-returns-then-n-ne0 c =
-    let xs = c.args.counts.now in
-    let i = c.loop-n.n-index in
-    let step : all_zero (drop i xs) ≡ (eqb (get_or xs i 0) 0 && all_zero (drop (i + 1) xs)) = at_drop_more all_zero xs i 0 c.loop-n-test.true in
-    grind (arith, nat_tests)
-
 pub returns : goal.returns
-returns c = sym (at_drop_all all_zero c.args.counts.now c.loop-n.n-index c.loop-n-test.false) ∙ c.loop-n.invariant
+returns c =
+    let xs = c.args.counts.now in
+    all_from_yields_List (λ n. eqb n 0) _ _ c.all.result c.all.ensures.ran (YieldsList-from_slice xs cc) (λ x b q k. search (rules, tests)) ∙ same_from_clauses (list_all (λ n. eqb n 0)) all_zero (λ n r. eqb n 0 && r) refl (λ _ _. refl) (λ _ _. refl) xs

@@ -1,22 +1,23 @@
-use Rattle.std.proofs.Common.{Some, sym, ap, ◌∙◌, arith}
-use Rattle.types.specs.declared.Direction.TheVariants.{Read, Write}
-use Rattle.strips.specs.Entries.{entry_of}
+use Rattle.std.proofs.Common.{sym, ap, ◌∙◌}
+use Rattle.queue.specs.Queues.{entry_at}
+use Rattle.strips.proofs.Lined.{found_at, past_at, sections_all}
 use Rattle.strips.proofs.parts.Parts.entry_at.Goals as goal
-use Rattle.strips.proofs.Sections.{at_ahead, at_readers, at_behind, at_none}
 
-pub returns-then-place-ahead : goal.returns-then-place-ahead
-returns-then-place-ahead c =
-    ap (λ t. Some (entry_of Write t)) c.at-task.ensures ∙ sym (at_ahead c.args.self.now c.args.place c.if-place-ahead.true)
+pub loop-strip-init : goal.loop-strip-init
+loop-strip-init c =
+    let p = c.self.inside in
+    ap (entry_at c.args.place) (sections_all p.ahead p.readers p.behind ∙ c.self.view_is)
 
-pub returns-then-place-readers : goal.returns-then-place-readers
-returns-then-place-readers c =
-    ap (λ t. Some (entry_of Read t)) c.at-task-then-place-readers.ensures
-    ∙ sym (at_readers c.args.self.now c.args.place c.if-place-ahead.false c.if-place-readers.true)
+pub returns-in-Some : goal.returns-in-Some
+returns-in-Some c =
+    found_at _ c.loop-strip.strip-index c.loop-strip.place c.in-Some.task c.strip-item.result c.direction-item.result _ c.loop-strip.invariant c.loop-strip-test.true (sym c.in-Some.ensures)
 
-pub returns-then-place-self : goal.returns-then-place-self
-returns-then-place-self c =
-    ap (λ t. Some (entry_of Write t)) c.at-task-then-place-self.ensures
-    ∙ sym (at_behind c.args.self.now c.args.place c.if-place-ahead.false c.if-place-readers.false c.if-place-self.true)
+pub overflow_sub-place : goal.overflow_sub-place
+overflow_sub-place c =
+    let past = past_at _ c.loop-strip.strip-index c.loop-strip.place c.strip-item.result _ c.loop-strip.invariant c.loop-strip-test.true (sym c.in_default.ensures) in
+    rw c.len-place.ensures.value past.0
 
-pub returns : goal.returns
-returns c = sym (at_none c.args.self.now c.args.place (omega arith))
+pub loop-strip-preserved : goal.loop-strip-preserved
+loop-strip-preserved c =
+    let past = past_at _ c.loop-strip.strip-index c.loop-strip.place c.strip-item.result _ c.loop-strip.invariant c.loop-strip-test.true (sym c.in_default.ensures) in
+    rw c.len-place.ensures.value past.1
