@@ -45,7 +45,7 @@ Fits (p ∷ ps) = (p.fits ≡ true) × Fits ps
 -- There is no fault exactly where every part fits.
 fits_step : (b : Bool) (o : Option Fault) (g : Fault) → cond b o (Some g) ≡ None → (b ≡ true) × (o ≡ None)
 fits_step true o g h = (refl, h)
-fits_step false o g h = let z : ◌≡◌ {A = ℕ} 0 1 = cc in absurd (omega arith)
+fits_step false o g h = absurd cc
 
 fits_from : (ps : List Part) → first_fault ps ≡ None → Fits ps
 fits_from [] h = tt

@@ -1,13 +1,13 @@
 -- Runs of digits and the numbers that they write. Assumes nothing.
-use Rattle.std.proofs.Common.{◌≡◌, ℕ, zero, suc, ◌+◌, ◌-◌, ◌*◌, ◌^◌, ◌<◌, ◌≤◌, true, leb, List, [], ◌∷◌, ◌++◌, length, get_or, take, drop, decimal, fold, ap, ◌∙◌, ⊎_elim, arith, rules}
+use Rattle.std.proofs.Common.{◌≡◌, ℕ, suc, ◌+◌, ◌-◌, ◌*◌, ◌^◌, ◌<◌, ◌≤◌, true, leb, List, [], ◌∷◌, ◌++◌, length, get_or, take, drop, decimal, fold, ap, ◌∙◌, ⊎_elim, arith, rules}
 use Rattle.std.specs.Int.{IsInRange}
 use Rattle.std.specs.Char.{is_ascii_digit}
 use Rattle.std.specs.List.{prefix_len as leading}
 use Rattle.std.proofs.lemmas.Fmt.{decimal_nonempty, length-decimal-le, first_decimal, decimal_digit}
 use Rattle.std.proofs.lemmas.List.{length-take, length-take-le, get_or-take}
 use Rattle.std.proofs.lemmas.Str.Parse.{IsNumeralModel, tells_by_index, numerals_by_fold, digits_value_short}
-use Rattle.std.proofs.lemmas.List.Sums.{prefix_len-le-length}
-use Rattle.std.proofs.lemmas.Bool.{cases_lt, and_parts, and_from, leb-true, le-leb, cases_Bool, cond-false, cond-true}
+use Rattle.std.proofs.lemmas.List.Sums.{prefix_len_passes}
+use Rattle.std.proofs.lemmas.Bool.{cases_lt, and_parts, and_from, leb-true, le-leb, cond-true}
 use Rattle.std.proofs.lemmas.Bool.Decides.{nat_tests}
 use Rattle.lines.specs.Grammar.{run_length, number_at, value_of, well_formed}
 use Rattle.lines.specs.Scan.{AllDigits}
@@ -15,22 +15,10 @@ use Rattle.lines.specs.Scan.{AllDigits}
 digit_in : (b : ℕ) → is_ascii_digit b ≡ true → IsInRange 48 57 b
 digit_in b h = let p = and_parts (leb 48 b) (leb b 57) h in (leb-true 48 b p.0, leb-true b 57 p.1)
 
--- A run is no longer than what it begins.
-pub run_within : (bytes : List ℕ) → run_length bytes ≤ length bytes
-unfolding run_length
-run_within bytes = prefix_len-le-length is_ascii_digit bytes
-
 -- Each byte of a run is a digit.
 run_digit : (bytes : List ℕ) (k : ℕ) → k < run_length bytes → IsInRange 48 57 (get_or bytes k 0)
 unfolding run_length
-run_digit [] k h = absurd (omega arith)
-run_digit (b ∷ bytes) zero h =
-    ⊎_elim (λ t. digit_in b t) (λ f. absurd (omega (arith, cond-false (is_ascii_digit b) (1 + leading is_ascii_digit bytes) 0 f))) (cases_Bool (is_ascii_digit b))
-run_digit (b ∷ bytes) (suc k) h =
-    ⊎_elim
-    (λ t. run_digit bytes k (omega (arith, cond-true (is_ascii_digit b) (1 + leading is_ascii_digit bytes) 0 t)))
-    (λ f. absurd (omega (arith, cond-false (is_ascii_digit b) (1 + leading is_ascii_digit bytes) 0 f)))
-    (cases_Bool (is_ascii_digit b))
+run_digit bytes k h = digit_in (get_or bytes k 0) (prefix_len_passes is_ascii_digit bytes k 0 h)
 
 -- Each byte of the number at a place is a digit.
 pub number_digits : (line : List ℕ) (place : ℕ) → AllDigits (number_at line place)

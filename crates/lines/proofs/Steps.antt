@@ -1,5 +1,5 @@
 -- The answer of a line from the answers of its parts, front to back. Assumes nothing.
-use Rattle.std.proofs.Common.{◌≡◌, ℕ, Bool, true, false, cond, List, [], ◌∷◌, ◌++◌, get_or, Some, None, Ok, Err, Option, sym, refl, ap, ◌∙◌, arith}
+use Rattle.std.proofs.Common.{◌≡◌, ℕ, Bool, true, false, cond, List, [], ◌∷◌, ◌++◌, get_or, Some, None, Ok, Err, Option, sym, refl, ap, ◌∙◌}
 use Rattle.types.specs.declared.Verb.{Verb}
 use Rattle.lines.specs.declared.commands.Command.TheVariants.{Make as Command-Make, Call as Command-Call}
 use Rattle.lines.specs.declared.commands.Fault.{Fault}
@@ -12,10 +12,10 @@ use Rattle.lines.specs.Scan.{verb_answer, number_answer, end_answer}
 -- An answer is a value only without a fault, and then it is that value; else it is the fault.
 pub unless_ok : {A : Type 0} (o : Option Fault) (x y : A) → Ok y ≡ unless o x → (o ≡ None) × (x ≡ y)
 unless_ok None x y h = (refl, cc)
-unless_ok (Some f) x y h = let z : ◌≡◌ {A = ℕ} 0 1 = cc in absurd (omega arith)
+unless_ok (Some f) x y h = absurd cc
 
 unless_err : {A : Type 0} (o : Option Fault) (x : A) (f : Fault) → Err f ≡ unless o x → o ≡ Some f
-unless_err None x f h = let z : ◌≡◌ {A = ℕ} 0 1 = cc in absurd (omega arith)
+unless_err None x f h = absurd cc
 unless_err (Some g) x f h = cc
 
 some_step : (b : Bool) (o q : Option Fault) (g f : Fault) → (o ≡ Some f → q ≡ Some f) → cond b o (Some g) ≡ Some f → cond b q (Some g) ≡ Some f
@@ -24,11 +24,11 @@ some_step false o q g f more h = h
 
 none_step : (b : Bool) (o q r : Option Fault) (g : Fault) → (o ≡ None → q ≡ r) → cond b o (Some g) ≡ None → cond b q (Some g) ≡ r
 none_step true o q r g more h = more h
-none_step false o q r g more h = let z : ◌≡◌ {A = ℕ} 0 1 = cc in absurd (omega arith)
+none_step false o q r g more h = absurd cc
 
 -- A fault of the front is the fault of the whole.
 front_fault : (ps qs : List Part) (f : Fault) → first_fault ps ≡ Some f → first_fault (ps ++ qs) ≡ Some f
-front_fault [] qs f h = let z : ◌≡◌ {A = ℕ} 0 1 = cc in absurd (omega arith)
+front_fault [] qs f h = absurd cc
 front_fault (p ∷ ps) qs f h = some_step p.fits (first_fault ps) (first_fault (ps ++ qs)) _ f (front_fault ps qs f) h
 
 -- Where the front has no fault, the rest decides.
@@ -38,10 +38,10 @@ front_fits (p ∷ ps) qs h = none_step p.fits (first_fault ps) (first_fault (ps 
 
 verb_make : (b : Bool) (w : Verb) → cond b Make (Call w) ≡ Make → b ≡ true
 verb_make true w h = refl
-verb_make false w h = let z : ◌≡◌ {A = ℕ} 0 1 = cc in absurd (omega arith)
+verb_make false w h = absurd cc
 
 verb_call : (b : Bool) (w v : Verb) → cond b Make (Call w) ≡ Call v → (b ≡ false) × (w ≡ v)
-verb_call true w v h = let z : ◌≡◌ {A = ℕ} 0 1 = cc in absurd (omega arith)
+verb_call true w v h = absurd cc
 verb_call false w v h = (refl, cc)
 
 -- A fault of the letter is the line's.

@@ -4,9 +4,8 @@
 ghost use Rattle.std.specs.Prelude.{◌≡◌, ◌<◌, ◌≤◌, length, IfOk};
 ghost use Rattle.lines.specs.Grammar.{run_length, well_formed, value_of, answer};
 ghost use Rattle.lines.specs.Scan.{letter_verb, TokenAt, verb_answer, AllDigits, number_answer, end_answer};
-ghost use Rattle.lines.specs.Hex.{hex_of};
+ghost use Rattle.lines.specs.Hex.{hex_at, hex_of};
 ghost use Rattle.lines.specs.Written.{Exact};
-ghost use Rattle.std.specs.Char.{digit_char};
 
 use types::{Refusal, Verb};
 
@@ -36,6 +35,18 @@ struct Placed<'a> {
     place: usize,
 }
 
+impl Placed<'_> {
+    // The fault of a line in which this token does not fit.
+    fn fault(self, refusal: Refusal) -> Fault
+        ensures { result ≡ record { refusal = refusal; place = self.entry.place } }
+    {
+        Fault {
+            refusal,
+            place: self.place,
+        }
+    }
+}
+
 // The value of a number, and the place behind its last digit.
 #[derive(Clone, Copy)]
 struct Numeral {
@@ -58,31 +69,30 @@ fn letter_verb(letter: char) -> Option<LineVerb>
 }
 
 // How many digits the bytes begin with.
+#[tactic(auto, unfolding(crate::specs::Grammar::run_length))]
 fn run_length(bytes: &[u8]) -> usize
     ensures value { result ≡ run_length bytes.now }
     ensures within { result ≤ length bytes.now }
 {
-    let mut n = 0;
-    while n < bytes.len() && bytes[n].is_ascii_digit() {
-        n += 1;
-    }
-    n
+    bytes
+        .iter()
+        .take_while(|byte| byte.is_ascii_digit())
+        .count()
 }
 
 // The token at a place: the letter at the beginning, else the digits, else all that is left.
+// (Line and place stay two parameters: a struct of both would have to show before each step that its place is in the line.)
 fn token_at(line: &[u8], place: usize) -> Placed<'_>
     requires { place ≤ length line.now }
     ensures place { result.place ≡ place }
     ensures token { TokenAt line.now place result.token }
 {
-    let (_, rest) = line.split_at(place);
-    let (digits, _) = rest.split_at(run_length(rest));
-    let token = if place == 0 && !line.is_empty() {
-        Token::Letter(&line[0])
-    } else if !digits.is_empty() {
-        Token::Number(digits)
-    } else {
-        Token::LeftOver(rest)
+    let rest = &line[place..];
+    let digits = &rest[..run_length(rest)];
+    let token = match line.first() {
+        Some(letter) if place == 0 => Token::Letter(letter),
+        _ if digits.is_empty() => Token::LeftOver(rest),
+        _ => Token::Number(digits),
     };
     Placed { token, place }
 }
@@ -92,10 +102,7 @@ fn line_verb(line: &[u8]) -> Result<LineVerb, Fault>
     ensures { result ≡ verb_answer line.now }
 {
     let first = token_at(line, 0);
-    let fault = Fault {
-        refusal: Refusal::UnknownLetter,
-        place: first.place,
-    };
+    let fault = first.fault(Refusal::UnknownLetter);
     match first.token {
         Token::Letter(letter) => letter_verb(char::from(*letter)).ok_or(fault),
         Token::Number(_) | Token::LeftOver(_) => Err(fault),
@@ -114,6 +121,7 @@ fn well_formed(digits: &[u8]) -> bool
 }
 
 // The number that at most three digits write.
+#[tactic(auto, using(crate::proofs::Numbers::value_before), unfolding(crate::specs::Grammar::value_of))]
 fn value(digits: &[u8]) -> u16
     requires few { length digits.now ≤ 3 }
     requires all { AllDigits digits.now }
@@ -131,7 +139,7 @@ fn number(line: &[u8], place: usize) -> Result<Numeral, Fault>
     ensures value { result ≡ number_answer line.now place }
     ensures within { IfOk result (λ n. n.end ≤ length line.now) }
 {
-    if place >= line.len() || line[place] != b' ' {
+    if line.get(place) != Some(&b' ') {
         return Err(Fault {
             refusal: Refusal::MissingSpace,
             place,
@@ -143,10 +151,7 @@ fn number(line: &[u8], place: usize) -> Result<Numeral, Fault>
             value: value(digits),
             end: next.place + digits.len(),
         }),
-        _ => Err(Fault {
-            refusal: Refusal::MalformedNumber,
-            place: next.place,
-        }),
+        _ => Err(next.fault(Refusal::MalformedNumber)),
     }
 }
 
@@ -157,15 +162,13 @@ fn ended(line: &[u8], place: usize, command: Command) -> Result<Command, Fault>
 {
     let last = token_at(line, place);
     match last.token {
-        Token::LeftOver(bytes) if bytes.is_empty() => Ok(command),
-        _ => Err(Fault {
-            refusal: Refusal::LeftOver,
-            place: last.place,
-        }),
+        Token::LeftOver([]) => Ok(command),
+        _ => Err(last.fault(Refusal::LeftOver)),
     }
 }
 
 // The command of a line, or the fault of its first part that does not fit.
+#[tactic(auto, using(crate::proofs::Steps::verb_fault, crate::proofs::Steps::call_ends, crate::proofs::Steps::make_ends, crate::proofs::Accepted::exact))]
 pub fn command(line: &[u8]) -> Result<Command, Fault>
     ensures reads { result ≡ answer line.now }
     ensures exact { Exact line.now result }
@@ -195,30 +198,19 @@ pub fn command(line: &[u8]) -> Result<Command, Fault>
     }
 }
 
-// The lower-case character of a digit in base sixteen.
-fn digit(value: u32) -> u8
-    requires { value < 16 }
-    ensures { result ≡ digit_char value }
+// The digit of a word at a place in base sixteen, counted from the least significant, as a lower-case character.
+#[tactic(auto, using(crate::proofs::Mapped::sixteens))]
+fn digit_at(word: u32, place: u32) -> u8
+    requires { place < 8 }
+    ensures { result ≡ hex_at word place }
 {
-    if value < 10 {
-        b'0' + value as u8
-    } else {
-        b'a' - 10 + value as u8
-    }
+    char::from_digit((word >> (4 * place)) % 16, 16).unwrap() as u8
 }
 
 // The eight lower-case digits of a word in base sixteen, the most significant first.
+#[tactic(auto, unfolding(crate::specs::Hex::hex_of))]
 pub fn digits(word: u32) -> [u8; 8]
     ensures { result ≡ hex_of word }
 {
-    [
-        digit(word / 0x1000_0000 % 16),
-        digit(word / 0x100_0000 % 16),
-        digit(word / 0x10_0000 % 16),
-        digit(word / 0x1_0000 % 16),
-        digit(word / 0x1000 % 16),
-        digit(word / 0x100 % 16),
-        digit(word / 0x10 % 16),
-        digit(word % 16),
-    ]
+    [7, 6, 5, 4, 3, 2, 1, 0].map(|place| digit_at(word, place))
 }
