@@ -1,5 +1,5 @@
 -- What the calls answer, by the rules. Assumes nothing.
-use Rattle.std.specs.Prelude.{◌≡◌, ℕ, Bool, true, false, cond, length, Some, None, Ok, Err, Option, Result, ◌==◌, nat_le}
+use Rattle.std.specs.Prelude.{◌≡◌, ℕ, cond, length, Some, None, Ok, Err, Option, Result, ◌==◌, nat_le}
 use Rattle.types.specs.declared.Direction.{Direction}
 use Rattle.types.specs.declared.Direction.TheVariants.{Read, Write}
 use Rattle.types.specs.declared.Entry.{Entry}
@@ -11,10 +11,9 @@ use Rattle.types.specs.declared.Refusal.TheVariants.{NotMade, NoSuchTask}
 use Rattle.ring.specs.Held.{Held, put_all}
 use Rattle.word.specs.Words.{Sizes}
 use Rattle.rules.specs.declared.Phase.{Phase}
-use Rattle.rules.specs.declared.Phase.TheVariants.{Out, Claiming, AtQueueLock, Queueing, Queued, Holding, Owing, Passing}
-use Rattle.rules.specs.declared.Row.{Row}
 use Rattle.rules.specs.Locks.{Lock, row_of, phase_of}
-use Rattle.rules.specs.Steps.{Answer, refused, accepted, Room, step, after, make}
+use Rattle.rules.specs.Steps.{Answer, refused, accepted, Room, can_enter, one_more_attempt, step, after, make}
+use Rattle.lock.specs.declared.state.Task.{Task}
 use Rattle.rules.specs.Records.{words_of, making_words}
 
 -- The verb of a claim.
@@ -57,20 +56,18 @@ pub record Made (z : Sizes) (tasks spin : ℕ) (l : Lock) (archive : Held ℕ) (
   pub lock : l' ≡ after_making l (make z tasks spin (length archive.spare) l)
   pub words : archive' ≡ put_all (making_words tasks spin (make z tasks spin (length archive.spare) l)) archive
 
--- The row of a task, or the refusal of a call that names no task of a made lock.
-abbrev pub row_answer : ℕ → Lock → Result Row Refusal
-row_answer t l = cond (l.tasks == 0) (Err NotMade) (cond (nat_le l.tasks t) (Err NoSuchTask) (Ok (row_of t l)))
+-- The number of a task, or the refusal of a call that names no task of a made lock.
+abbrev pub task_answer : ℕ → Lock → Result ℕ Refusal
+task_answer t l = cond (l.tasks == 0) (Err NotMade) (cond (nat_le l.tasks t) (Err NoSuchTask) (Ok t))
 
--- A move of a task in that phase needs no notices.
-abbrev pub may_go_on : Phase → Bool
-may_go_on Out = false
-may_go_on (Claiming d) = true
-may_go_on (AtQueueLock d) = true
-may_go_on (Queueing d) = true
-may_go_on (Queued d) = false
-may_go_on (Holding d) = false
-may_go_on Owing = true
-may_go_on Passing = false
+-- A task by its number.
+abbrev pub number_of : Result Task Refusal → Result ℕ Refusal
+number_of (Ok task) = Ok task.number
+number_of (Err r) = Err r
+
+-- An attempt to enter: the attempts made with this one, Ok where the word lets the task enter.
+abbrev pub attempt_answer : Sizes → ℕ → Direction → Lock → Result ℕ ℕ
+attempt_answer z t d l = cond (can_enter z t d l.word) (Ok (one_more_attempt (row_of t l).attempts)) (Err (one_more_attempt (row_of t l).attempts))
 
 -- The phase of a task; none from T up.
 abbrev pub phase_answer : ℕ → Lock → Option Phase

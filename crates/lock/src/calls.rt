@@ -13,15 +13,16 @@ ghost use Rattle.rules.specs.Records.{notices_of};
 ghost use Rattle.rules.specs.declared.Phase.TheVariants.{Passing};
 
 use crate::Lock;
-use crate::archiving::{write_call, write_notices};
-use crate::moves::{fresh_state, goes_on};
+use crate::archiving::{room_for, write_call};
+use crate::state::State;
 use archive::bits;
 use queue::WaitQueue;
 use ring::Ring;
-use rules::{Phase, runs_are_safe};
+use rules::{Phase, Row, runs_are_safe};
 use types::{ArchiveWord, Direction, Entry, Outcome, Refusal, Verb};
 use word::LockWord;
 
+// No From: only in a claim does a direction make a verb.
 fn claim_verb(direction: Direction) -> Verb
     ensures { result ≡ claim_verb direction }
 {
@@ -37,7 +38,7 @@ impl<W: LockWord + Drop, Q: WaitQueue + Drop> Lock<W, Q> {
         ensures { lock_of W.LockWord.meaning Q.WaitQueue.entries result.state ≡ blank_lock W.LockWord.sizes }
     {
         Lock {
-            state: fresh_state(0, 0),
+            state: State::new(0, 0),
         }
     }
 
@@ -52,16 +53,15 @@ impl<W: LockWord + Drop, Q: WaitQueue + Drop> Lock<W, Q> {
         ensures called { Called W.LockWord.sizes (claim_verb direction) task (archive_room (held_of archive.old)) (lock_of W.LockWord.meaning Q.WaitQueue.entries self.old.state) (held_of archive.old) result (lock_of W.LockWord.meaning Q.WaitQueue.entries self.new.state) (held_of archive.new) }
         ensures same { (e : Refusal) → result ≡ Err e → (self.new ≡ self.old) × (archive.new ≡ archive.old) }
     {
-        let row = self.state.row(task)?;
-        let Phase::Out = row.phase else {
+        let task = self.state.task(task)?;
+        let Phase::Out = self.state.phase(task) else {
             return Err(Refusal::NotOut);
         };
-        if archive.free() < 2 {
-            return Err(Refusal::ArchiveFull);
-        }
-        let task = task as u8;
-        self.state.start(task, direction);
-        write_call(archive, claim_verb(direction), task, Outcome::Claimed);
+        room_for(archive, 2)?;
+        let phase = Phase::Claiming(direction);
+        self.state.set_row(task, Row { phase, attempts: 0 });
+        let verb = claim_verb(direction);
+        write_call(archive, verb, task.number, Outcome::Claimed);
         Ok(Outcome::Claimed)
     }
 
@@ -78,49 +78,18 @@ impl<W: LockWord + Drop, Q: WaitQueue + Drop> Lock<W, Q> {
         ensures notices { held_of notices.new ≡ put_all (notices_of (step W.LockWord.sizes Move task (ring_room (held_of notices.old) (held_of archive.old)) (lock_of W.LockWord.meaning Q.WaitQueue.entries self.old.state))) (held_of notices.old) }
         ensures same { (e : Refusal) → result ≡ Err e → (self.new ≡ self.old) × (notices.new ≡ notices.old) × (archive.new ≡ archive.old) }
     {
-        let row = self.state.row(task)?;
-        if let Phase::Passing = row.phase {
-            return self.pass_on(task, notices, archive);
-        }
-        if !goes_on(row.phase) {
-            return Err(Refusal::CannotMove);
-        }
-        if archive.free() < 2 {
-            return Err(Refusal::ArchiveFull);
-        }
-        let task = task as u8;
-        let outcome = self.state.go_on(task, row.phase);
-        write_call(archive, Verb::Move, task, outcome);
-        Ok(outcome)
-    }
-
-    // A passing task hands the lock over.
-    fn pass_on(
-        &mut self,
-        task: u32,
-        notices: &mut Ring<Entry>,
-        archive: &mut Ring<u32>,
-    ) -> Result<Outcome, Refusal>
-        requires made { task < self.old.state.tasks }
-        requires phase { phase_of task (lock_of W.LockWord.meaning Q.WaitQueue.entries self.old.state) ≡ Passing }
-        ensures notices_lent { lent_name notices.new ≡ lent_name notices.old }
-        ensures lent { lent_name archive.new ≡ lent_name archive.old }
-        ensures called { Called W.LockWord.sizes Move task (ring_room (held_of notices.old) (held_of archive.old)) (lock_of W.LockWord.meaning Q.WaitQueue.entries self.old.state) (held_of archive.old) result (lock_of W.LockWord.meaning Q.WaitQueue.entries self.new.state) (held_of archive.new) }
-        ensures notices { held_of notices.new ≡ put_all (notices_of (step W.LockWord.sizes Move task (ring_room (held_of notices.old) (held_of archive.old)) (lock_of W.LockWord.meaning Q.WaitQueue.entries self.old.state))) (held_of notices.old) }
-        ensures same { (e : Refusal) → result ≡ Err e → (self.new ≡ self.old) × (notices.new ≡ notices.old) × (archive.new ≡ archive.old) }
-    {
-        let count = self.state.taken_count();
-        if notices.free() < count as usize {
-            return Err(Refusal::NoticesFull);
-        }
-        if archive.free() < 2 + count as usize {
-            return Err(Refusal::ArchiveFull);
-        }
-        let task = task as u8;
-        let taken = self.state.pass(task);
-        let outcome = Outcome::Passed(count as u16);
-        write_call(archive, Verb::Move, task, outcome);
-        write_notices(notices, archive, taken.as_slice());
+        let state = &mut self.state;
+        let task = state.task(task)?;
+        let outcome = match state.phase(task) {
+            Phase::Out | Phase::Queued(_) | Phase::Holding(_) => return Err(Refusal::CannotMove),
+            Phase::Passing => return state.try_pass(task, notices, archive),
+            _ if archive.free() < 2 => return Err(Refusal::ArchiveFull),
+            Phase::Claiming(direction) => state.attempt(task, direction),
+            Phase::AtQueueLock(direction) => state.lock_queue(task, Phase::Queueing(direction)),
+            Phase::Queueing(direction) => state.queue_up(task, direction),
+            Phase::Owing => state.lock_queue(task, Phase::Passing),
+        };
+        write_call(archive, Verb::Move, task.number, outcome);
         Ok(outcome)
     }
 
@@ -130,16 +99,13 @@ impl<W: LockWord + Drop, Q: WaitQueue + Drop> Lock<W, Q> {
         ensures called { Called W.LockWord.sizes Leave task (archive_room (held_of archive.old)) (lock_of W.LockWord.meaning Q.WaitQueue.entries self.old.state) (held_of archive.old) result (lock_of W.LockWord.meaning Q.WaitQueue.entries self.new.state) (held_of archive.new) }
         ensures same { (e : Refusal) → result ≡ Err e → (self.new ≡ self.old) × (archive.new ≡ archive.old) }
     {
-        let row = self.state.row(task)?;
-        let Phase::Holding(direction) = row.phase else {
+        let task = self.state.task(task)?;
+        let Phase::Holding(direction) = self.state.phase(task) else {
             return Err(Refusal::HoldsNothing);
         };
-        if archive.free() < 2 {
-            return Err(Refusal::ArchiveFull);
-        }
-        let task = task as u8;
+        room_for(archive, 2)?;
         let outcome = self.state.leave(task, direction);
-        write_call(archive, Verb::Leave, task, outcome);
+        write_call(archive, Verb::Leave, task.number, outcome);
         Ok(outcome)
     }
 
@@ -160,12 +126,10 @@ impl<W: LockWord + Drop, Q: WaitQueue + Drop> Lock<W, Q> {
         if spin > 255 {
             return Err(Refusal::SpinOutOfRange);
         }
-        if archive.free() == 0 {
-            return Err(Refusal::ArchiveFull);
-        }
+        room_for(archive, 1)?;
         let tasks = tasks as u8;
         let spin = spin as u8;
-        self.state = fresh_state(tasks, spin);
+        self.state = State::new(tasks, spin);
         let _ = archive.put(bits(ArchiveWord::Making { spin, tasks }));
         Ok(())
     }

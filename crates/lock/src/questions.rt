@@ -1,4 +1,4 @@
-// What can be asked of a lock. No question alters anything.
+// What can be asked of a lock. No question alters anything. Those from `is_locked` on ask the word or the queue in one line each.
 ghost use Rattle.std.specs.Prelude.{◌≡◌, length};
 ghost use Rattle.word.specs.Words.{count};
 ghost use Rattle.queue.specs.Queues.{entry_at};

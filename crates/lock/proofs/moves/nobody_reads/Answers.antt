@@ -1,30 +1,13 @@
-use Rattle.std.proofs.Common.{◌≡◌, ◌+◌, ◌<◌, ◌≤◌, ◌&&◌, eqb, length, get_or, drop, sym, ◌∙◌, arith}
-use Rattle.std.proofs.lemmas.List.{at_drop_more, at_drop_all}
-use Rattle.std.proofs.lemmas.Bool.Decides.{nat_tests}
-use Rattle.word.specs.Words.{all_zero}
+use Rattle.std.proofs.Common.{◌≡◌, ℕ, ◌<◌, length, slice_index, rules, IsTrue}
+use Rattle.std.proofs.iter.runs.Sources.{ranges}
+use Rattle.lock.proofs.Counts.{zeros_told}
 use Rattle.lock.proofs.moves.nobody_reads.Goals as goal
-
-pub loop-group-preserved : goal.loop-group-preserved
-loop-group-preserved g c =
-    let xs = (g.W.LockWord.meaning c.args.word.now).counts in
-    let i = c.loop-group.group in
-    let long = g.met.W.LockWord.one_count_each c.args.word.now in
-    let within : i < length xs = omega arith in
-    let step : all_zero (drop i xs) ≡ (eqb (get_or xs i 0) 0 && all_zero (drop (i + 1) xs)) = at_drop_more all_zero xs i 0 within in
-    grind (arith, nat_tests)
-
-pub returns-then-count-ne0 : goal.returns-then-count-ne0
-returns-then-count-ne0 g c =
-    let xs = (g.W.LockWord.meaning c.args.word.now).counts in
-    let i = c.loop-group.group in
-    let long = g.met.W.LockWord.one_count_each c.args.word.now in
-    let within : i < length xs = omega arith in
-    let step : all_zero (drop i xs) ≡ (eqb (get_or xs i 0) 0 && all_zero (drop (i + 1) xs)) = at_drop_more all_zero xs i 0 within in
-    grind (arith, nat_tests)
 
 pub returns : goal.returns
 returns g c =
     let xs = (g.W.LockWord.meaning c.args.word.now).counts in
+    let groups = g.met.W.LockWord.group_count in
     let long = g.met.W.LockWord.one_count_each c.args.word.now in
-    let all : length xs ≤ c.loop-group.group = omega arith in
-    sym (at_drop_all all_zero xs c.loop-group.group all) ∙ c.loop-group.invariant
+    let all : IsTrue c.all.result → (k : ℕ) → k < length xs → slice_index xs k ≡ 0 = search (rules, ranges) in
+    let each : ((k : ℕ) → k < length xs → slice_index xs k ≡ 0) → IsTrue c.all.result = search (rules, ranges) in
+    zeros_told c.all.result xs all each

@@ -1,21 +1,25 @@
-use Rattle.std.proofs.Common.{◌≡◌, ◌++◌, length}
+use Rattle.std.proofs.Common.{◌≡◌, length, map}
+use Rattle.ring.specs.Held.{put_all}
+use Rattle.ring.specs.HeldOf.{held_of, lent_name}
 use Rattle.rules.specs.Steps.{front_readers}
-use Rattle.lock.specs.Keys.{holders}
+use Rattle.rules.specs.Records.{notice_word}
 use Rattle.lock.specs.Meaning.{lock_of}
-use Rattle.lock.specs.Taken.{taken_of, readers_taken}
+use Rattle.lock.specs.Taken.{readers_taken}
 use Rattle.lock.proofs.state.State.take_readers.Given as goal
 
--- What is left to take gives the lock and the tasks taken in the end.
-abbrev pub invariant-loop-entry : goal.invariant-loop-entry
-invariant-loop-entry g l =
+-- What is left to take gives the lock and the rings in the end.
+abbrev pub invariant-loop-reader : goal.invariant-loop-reader
+invariant-loop-reader g l =
     let entries = g.Q.WaitQueue.entries in
     let meant = lock_of g.W.LockWord.meaning entries in
     let z = g.W.LockWord.sizes in
-    (readers_taken z (meant l.self) ≡ readers_taken z (meant l.initial.self))
-    × (taken_of l.taken ++ front_readers (entries l.self.queue) ≡ front_readers (entries l.initial.self.queue))
-    × (holders l.self.rows ≡ 0)
-    × (length l.self.rows ≡ 64)
-    × (l.self.queue_locked ≡ l.initial.self.queue_locked)
+    record {
+      notices_lent : lent_name l.notices ≡ lent_name l.initial.notices;
+      archive_lent : lent_name l.archive ≡ lent_name l.initial.archive;
+      lock : readers_taken z (meant l.self) ≡ readers_taken z (meant l.initial.self);
+      notices : put_all (front_readers (entries l.self.queue)) (held_of l.notices) ≡ put_all (front_readers (entries l.initial.self.queue)) (held_of l.initial.notices);
+      archive : put_all (map notice_word (front_readers (entries l.self.queue))) (held_of l.archive) ≡ put_all (map notice_word (front_readers (entries l.initial.self.queue))) (held_of l.initial.archive);
+    }
 
-abbrev pub decreases-loop-entry : goal.decreases-loop-entry
-decreases-loop-entry g l = length (g.Q.WaitQueue.entries l.self.queue)
+abbrev pub decreases-loop-reader : goal.decreases-loop-reader
+decreases-loop-reader g l = length (g.Q.WaitQueue.entries l.self.queue)
