@@ -11,7 +11,6 @@ use Rattle.types.specs.declared.Refusal.{Refusal}
 use Rattle.types.specs.declared.Refusal.TheVariants.{NotMade, NoSuchTask}
 use Rattle.ring.specs.Held.{Held, put_all}
 use Rattle.word.specs.Words.{Sizes, Word}
-use Rattle.packed.specs.Unpacked.{packed_sizes}
 use Rattle.rules.specs.declared.Phase.{Phase}
 use Rattle.rules.specs.declared.Phase.TheVariants.{Out, Claiming, AtQueueLock, Queueing, Queued, Holding, Owing, Passing}
 use Rattle.rules.specs.Locks.{Lock, phase_of}
@@ -66,52 +65,52 @@ recorded_none r room (Some d) none =
 unfoldable judged : ℕ → Lock → Answer → Answer
 judged t l a = cond (eqb l.tasks 0) (refused NotMade) (cond (leb l.tasks t) (refused NoSuchTask) a)
 
-step_room : (verb : Verb) (t : ℕ) (b : Setup) → NoneTaken (effect packed_sizes verb t b.lock) → step packed_sizes verb t (archive_room b.archive) b.lock ≡ call_answer verb t b
+step_room : (z : Sizes) (verb : Verb) (t : ℕ) (b : Setup) → NoneTaken (effect z verb t b.lock) → step z verb t (archive_room b.archive) b.lock ≡ call_answer z verb t b
 unfolding call_answer judged
-step_room verb t b none = ap (judged t b.lock) (recorded_room (unfit verb) b.notices b.archive (effect packed_sizes verb t b.lock) none)
+step_room z verb t b none = ap (judged t b.lock) (recorded_room (unfit verb) b.notices b.archive (effect z verb t b.lock) none)
 
-step_none : (verb : Verb) (t : ℕ) (b : Setup) → NoneTaken (effect packed_sizes verb t b.lock) → notices_of (call_answer verb t b) ≡ []
+step_none : (z : Sizes) (verb : Verb) (t : ℕ) (b : Setup) → NoneTaken (effect z verb t b.lock) → notices_of (call_answer z verb t b) ≡ []
 unfolding call_answer
-step_none verb t b none =
+step_none z verb t b none =
     cond_both {A = Answer} (eqb b.lock.tasks 0) _ _ (λ k. notices_of k ≡ []) (λ h. refl) (λ h. cond_both {A = Answer} (leb b.lock.tasks t) _ _ (λ k. notices_of k ≡ []) (λ k. refl) (λ k. recorded_none (unfit verb) _ _ none))
 
 -- a call's answer and the setup after it are those of the rules
-pub record CalledOn (verb : Verb) (t : ℕ) (b : Setup) (r : Result Outcome Refusal) (b' : Setup) : Type 0 where
-  pub answer : r ≡ called_of verb t b
-  pub after : b' ≡ setup_called verb t b
+pub record CalledOn (z : Sizes) (verb : Verb) (t : ℕ) (b : Setup) (r : Result Outcome Refusal) (b' : Setup) : Type 0 where
+  pub answer : r ≡ called_of z verb t b
+  pub after : b' ≡ setup_called z verb t b
 
-called_on : (verb : Verb) (t : ℕ) (b : Setup) (room : Room) (r : Result Outcome Refusal) (l' : Lock) (n' : Held Entry) (a' : Held ℕ) → Called packed_sizes verb t room b.lock b.archive r l' a' → step packed_sizes verb t room b.lock ≡ call_answer verb t b → n' ≡ put_all (notices_of (call_answer verb t b)) b.notices → CalledOn verb t b r (setup l' n' a')
-called_on verb t b room r l' n' a' called same told =
-    let lock-is : l' ≡ after b.lock (call_answer verb t b) = called.lock ∙ ap (after b.lock) same in
-    let words_are : a' ≡ put_all (words_of verb t (call_answer verb t b)) b.archive = called.words ∙ ap (λ k. put_all (words_of verb t k) b.archive) same in
+called_on : (z : Sizes) (verb : Verb) (t : ℕ) (b : Setup) (room : Room) (r : Result Outcome Refusal) (l' : Lock) (n' : Held Entry) (a' : Held ℕ) → Called z verb t room b.lock b.archive r l' a' → step z verb t room b.lock ≡ call_answer z verb t b → n' ≡ put_all (notices_of (call_answer z verb t b)) b.notices → CalledOn z verb t b r (setup l' n' a')
+called_on z verb t b room r l' n' a' called same told =
+    let lock-is : l' ≡ after b.lock (call_answer z verb t b) = called.lock ∙ ap (after b.lock) same in
+    let words_are : a' ≡ put_all (words_of verb t (call_answer z verb t b)) b.archive = called.words ∙ ap (λ k. put_all (words_of verb t k) b.archive) same in
     record { answer = called.answer ∙ ap result_of same; after = cc }
 
 -- a call that takes no task
-quiet_on : (verb : Verb) (t : ℕ) (b : Setup) (r : Result Outcome Refusal) (l' : Lock) (a' : Held ℕ) → NoneTaken (effect packed_sizes verb t b.lock) → Called packed_sizes verb t (archive_room b.archive) b.lock b.archive r l' a' → CalledOn verb t b r (setup l' b.notices a')
-quiet_on verb t b r l' a' none called = called_on verb t b (archive_room b.archive) r l' b.notices a' called (step_room verb t b none) (ap (λ k. put_all k b.notices) (sym (step_none verb t b none)))
+quiet_on : (z : Sizes) (verb : Verb) (t : ℕ) (b : Setup) (r : Result Outcome Refusal) (l' : Lock) (a' : Held ℕ) → NoneTaken (effect z verb t b.lock) → Called z verb t (archive_room b.archive) b.lock b.archive r l' a' → CalledOn z verb t b r (setup l' b.notices a')
+quiet_on z verb t b r l' a' none called = called_on z verb t b (archive_room b.archive) r l' b.notices a' called (step_room z verb t b none) (ap (λ k. put_all k b.notices) (sym (step_none z verb t b none)))
 
-claim_none : (t : ℕ) (d : Direction) (l : Lock) → NoneTaken (effect packed_sizes (claim_verb d) t l)
-claim_none t Read l = claimed_none t Read l (phase_of t l)
-claim_none t Write l = claimed_none t Write l (phase_of t l)
+claim_none : (z : Sizes) (t : ℕ) (d : Direction) (l : Lock) → NoneTaken (effect z (claim_verb d) t l)
+claim_none z t Read l = claimed_none t Read l (phase_of t l)
+claim_none z t Write l = claimed_none t Write l (phase_of t l)
 
-pub claim_on : (verb : Verb) (d : Direction) (t : ℕ) (b : Setup) (r : Result Outcome Refusal) (l' : Lock) (a' : Held ℕ) → verb ≡ claim_verb d → Called packed_sizes (claim_verb d) t (archive_room b.archive) b.lock b.archive r l' a' → CalledOn verb t b r (setup l' b.notices a')
-claim_on verb d t b r l' a' is called = subst (λ v. CalledOn v t b r (setup l' b.notices a')) (sym is) (quiet_on (claim_verb d) t b r l' a' (claim_none t d b.lock) called)
+pub claim_on : (z : Sizes) (verb : Verb) (d : Direction) (t : ℕ) (b : Setup) (r : Result Outcome Refusal) (l' : Lock) (a' : Held ℕ) → verb ≡ claim_verb d → Called z (claim_verb d) t (archive_room b.archive) b.lock b.archive r l' a' → CalledOn z verb t b r (setup l' b.notices a')
+claim_on z verb d t b r l' a' is called = subst (λ v. CalledOn z v t b r (setup l' b.notices a')) (sym is) (quiet_on z (claim_verb d) t b r l' a' (claim_none z t d b.lock) called)
 
-pub leave_on : (verb : Verb) (t : ℕ) (b : Setup) (r : Result Outcome Refusal) (l' : Lock) (a' : Held ℕ) → verb ≡ Leave → Called packed_sizes Leave t (archive_room b.archive) b.lock b.archive r l' a' → CalledOn verb t b r (setup l' b.notices a')
-leave_on verb t b r l' a' is called = subst (λ v. CalledOn v t b r (setup l' b.notices a')) (sym is) (quiet_on Leave t b r l' a' (leaving_none packed_sizes t b.lock (phase_of t b.lock)) called)
+pub leave_on : (z : Sizes) (verb : Verb) (t : ℕ) (b : Setup) (r : Result Outcome Refusal) (l' : Lock) (a' : Held ℕ) → verb ≡ Leave → Called z Leave t (archive_room b.archive) b.lock b.archive r l' a' → CalledOn z verb t b r (setup l' b.notices a')
+leave_on z verb t b r l' a' is called = subst (λ v. CalledOn z v t b r (setup l' b.notices a')) (sym is) (quiet_on z Leave t b r l' a' (leaving_none z t b.lock (phase_of t b.lock)) called)
 
-pub move_on : (verb : Verb) (t : ℕ) (b : Setup) (r : Result Outcome Refusal) (l' : Lock) (n' : Held Entry) (a' : Held ℕ) → verb ≡ Move → Called packed_sizes Move t (ring_room b.notices b.archive) b.lock b.archive r l' a' → n' ≡ put_all (notices_of (step packed_sizes Move t (ring_room b.notices b.archive) b.lock)) b.notices → CalledOn verb t b r (setup l' n' a')
+pub move_on : (z : Sizes) (verb : Verb) (t : ℕ) (b : Setup) (r : Result Outcome Refusal) (l' : Lock) (n' : Held Entry) (a' : Held ℕ) → verb ≡ Move → Called z Move t (ring_room b.notices b.archive) b.lock b.archive r l' a' → n' ≡ put_all (notices_of (step z Move t (ring_room b.notices b.archive) b.lock)) b.notices → CalledOn z verb t b r (setup l' n' a')
 unfolding call_answer
-move_on verb t b r l' n' a' is called told = subst (λ v. CalledOn v t b r (setup l' n' a')) (sym is) (called_on Move t b (ring_room b.notices b.archive) r l' n' a' called refl told)
+move_on z verb t b r l' n' a' is called told = subst (λ v. CalledOn z v t b r (setup l' n' a')) (sym is) (called_on z Move t b (ring_room b.notices b.archive) r l' n' a' called refl told)
 
 -- a making's answer and the setup after it are those of the rules
-pub record MadeOn (tasks spin : ℕ) (b : Setup) (r : Result (Unit {0}) Refusal) (b' : Setup) : Type 0 where
-  pub answer : r ≡ built_of tasks spin b
-  pub after : b' ≡ setup_made tasks spin b
+pub record MadeOn (z : Sizes) (tasks spin : ℕ) (b : Setup) (r : Result (Unit {0}) Refusal) (b' : Setup) : Type 0 where
+  pub answer : r ≡ built_of z tasks spin b
+  pub after : b' ≡ setup_made z tasks spin b
 
-pub make_on : (tasks spin : ℕ) (b : Setup) (r : Result (Unit {0}) Refusal) (l' : Lock) (a' : Held ℕ) → Made packed_sizes tasks spin b.lock b.archive r l' a' → MadeOn tasks spin b r (setup l' b.notices a')
+pub make_on : (z : Sizes) (tasks spin : ℕ) (b : Setup) (r : Result (Unit {0}) Refusal) (l' : Lock) (a' : Held ℕ) → Made z tasks spin b.lock b.archive r l' a' → MadeOn z tasks spin b r (setup l' b.notices a')
 unfolding make_answer
-make_on tasks spin b r l' a' made =
-    let lock-is : l' ≡ after_making b.lock (make_answer tasks spin b) = made.lock in
-    let words_are : a' ≡ put_all (making_words tasks spin (make_answer tasks spin b)) b.archive = made.words in
+make_on z tasks spin b r l' a' made =
+    let lock-is : l' ≡ after_making b.lock (make_answer z tasks spin b) = made.lock in
+    let words_are : a' ≡ put_all (making_words tasks spin (make_answer z tasks spin b)) b.archive = made.words in
     record { answer = made.answer; after = cc }

@@ -1,3 +1,4 @@
 pub mod Lines
 pub mod Meaning
 pub mod Ready
+pub mod Said

@@ -1,9 +1,10 @@
 use lock::Lock;
 use queue::WaitQueue;
 use std::process::Abort;
+use std::test::Fail;
 use word::LockWord;
 
-fn blank_answers<W: LockWord + Drop, Q: WaitQueue + Drop>(rt: &impl Abort) {
+fn blank_answers<W: LockWord + Drop, Q: WaitQueue + Drop>(rt: &impl Abort) -> Result<(), Fail> {
     let lock = Lock::<W, Q>::blank();
     assert_eq!(rt; lock.phase(0), None);
     assert_eq!(rt; lock.phase(u32::MAX), None);
@@ -12,12 +13,10 @@ fn blank_answers<W: LockWord + Drop, Q: WaitQueue + Drop>(rt: &impl Abort) {
     assert_eq!(rt; lock.count(u32::MAX), 0);
     assert_eq!(rt; lock.queue_len(), 0);
     assert_eq!(rt; lock.queued(0), None);
+    Ok(())
 }
 
 #[test]
-fn answers_of_a_blank_lock(rt: HostRuntime) {
-    blank_answers::<packed::Packed, chain::Chain>(&rt);
-    blank_answers::<packed::Packed, strips::Strips>(&rt);
-    blank_answers::<grouped::Grouped, chain::Chain>(&rt);
-    blank_answers::<grouped::Grouped, strips::Strips>(&rt);
+fn answers_of_a_blank_lock(rt: HostRuntime) -> Result<(), Fail> {
+    on_every_kind!(blank_answers, &rt)
 }

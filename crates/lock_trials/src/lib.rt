@@ -1,6 +1,17 @@
 // Refusals, blank locks and a hand-over, run on every pair of a lock word and a wait queue; more refusals on one pair; the size of a lock.
 #![tactic(auto)]
 
+// A trial on every pair of a lock word and a wait queue.
+#[cfg(test)]
+macro_rules! on_every_kind {
+    ($trial:ident, $rt:expr) => {{
+        $trial::<packed::Packed, chain::Chain>($rt)?;
+        $trial::<packed::Packed, strips::Strips>($rt)?;
+        $trial::<grouped::Grouped, chain::Chain>($rt)?;
+        $trial::<grouped::Grouped, strips::Strips>($rt)
+    }};
+}
+
 #[cfg(test)]
 mod blanks;
 #[cfg(test)]

@@ -1,48 +1,30 @@
 use crate::refused::{no_leave, no_move};
-use crate::steps::enter;
+use crate::steps::{claims, enter};
 use chain::Chain;
-use lock::Lock;
+use driver::Setup;
 use packed::Packed;
-use ring::{Blank, Ring};
+use ring::Blank;
 use std::test::Fail;
 use types::{Direction, Entry, Refusal};
 
 #[test]
 fn move_without_room(rt: HostRuntime) -> Result<(), Fail> {
-    let mut places = [<Entry as ring::Blank>::blank(); 1];
-    let mut notices = Ring::over(&mut places);
+    let mut places = [Entry::blank(); 1];
     let mut words = [0; 4];
-    let mut archive = Ring::over(&mut words);
-    let mut lock = Lock::<Packed, Chain>::blank();
-    lock.make(3, 0, &mut archive)?;
-    let _claimed = lock.claim(0, Direction::Read, &mut archive)?;
-    no_move(
-        &rt,
-        &mut lock,
-        0,
-        &mut notices,
-        &mut archive,
-        Refusal::ArchiveFull,
-    );
+    let mut setup = Setup::<Packed, Chain>::blank(&mut places, &mut words);
+    setup.make(3, 0)?;
+    claims(&rt, &mut setup, 0, Direction::Read);
+    no_move(&rt, &mut setup, 0, Refusal::ArchiveFull);
     Ok(())
 }
 
 #[test]
 fn leave_without_room(rt: HostRuntime) -> Result<(), Fail> {
-    let mut places = [<Entry as ring::Blank>::blank(); 1];
-    let mut notices = Ring::over(&mut places);
+    let mut places = [Entry::blank(); 1];
     let mut words = [0; 6];
-    let mut archive = Ring::over(&mut words);
-    let mut lock = Lock::<Packed, Chain>::blank();
-    lock.make(3, 0, &mut archive)?;
-    enter(
-        &rt,
-        &mut lock,
-        0,
-        Direction::Read,
-        &mut notices,
-        &mut archive,
-    );
-    no_leave(&rt, &mut lock, 0, &mut archive, Refusal::ArchiveFull);
+    let mut setup = Setup::<Packed, Chain>::blank(&mut places, &mut words);
+    setup.make(3, 0)?;
+    enter(&rt, &mut setup, 0, Direction::Read);
+    no_leave(&rt, &mut setup, 0, Refusal::ArchiveFull);
     Ok(())
 }

@@ -3,12 +3,10 @@ use Rattle.std.proofs.Common.{◌≡◌, ℕ, List, [], ◌∷◌, ◌++◌, len
 use Rattle.std.specs.List.{flat_map}
 use Rattle.std.proofs.lemmas.List.{append-nil, append_assoc}
 use Rattle.ring.specs.Held.{places_of, Free}
-use Rattle.rules.specs.Locks.{Lock}
 use Rattle.driver.specs.declared.trouble.Trouble.{Trouble}
 use Rattle.driver.specs.Lines.{Setup, ran, line_run}
 use Rattle.driver.specs.Ready.{Ready}
-use Rattle.cut.specs.Lines.{lines_of}
-use Rattle.transcript.specs.Answers.{words, trouble, line_reply, answers_to}
+use Rattle.transcript.specs.Answers.{words, trouble, line_reply}
 use Rattle.transcript.specs.Printed.{word_text, trouble_text, text_of}
 use Rattle.transcript.specs.Steps.{Emptied, Answered}
 use Rattle.transcript.proofs.Replies.{answer_of, line_agrees}
@@ -49,15 +47,3 @@ refused_line line b b' r t sofar text ready is run notices archive wrote =
         (ap (λ k. k.content) archive ∙ ready.1.0, ap (λ k. length k.spare) archive ∙ ready.1.1),
       );
     }
-
--- what the lines print from here on, once the first of them is answered
-pub one_more : (line : List ℕ) (input rest : List ℕ) (b b' : Setup) (sofar text : List ℕ) → lines_of input ≡ line ∷ lines_of rest → Answered line b sofar b' text → text ++ flat_map text_of (answers_to (lines_of rest) b'.lock) ≡ sofar ++ flat_map text_of (answers_to (lines_of input) b.lock)
-one_more line input rest b b' sofar text lines answered =
-    ap (λ k. k ++ flat_map text_of (answers_to (lines_of rest) b'.lock)) answered.printed
-    ∙ append_assoc sofar (text_of (line_reply line b.lock).answer) (flat_map text_of (answers_to (lines_of rest) b'.lock))
-    ∙ ap (λ l. sofar ++ (text_of (line_reply line b.lock).answer ++ flat_map text_of (answers_to (lines_of rest) l))) answered.lock
-    ∙ ap (λ k. sofar ++ flat_map text_of (answers_to k b.lock)) (sym lines)
-
--- no line is left
-pub no_more : (ls : List (List ℕ)) (l : Lock) (text : List ℕ) → ls ≡ [] → text ≡ text ++ flat_map text_of (answers_to ls l)
-no_more ls l text none = sym (append-nil text) ∙ ap (λ k. text ++ flat_map text_of (answers_to k l)) (sym none)

@@ -4,6 +4,7 @@ use Rattle.types.specs.declared.Verb.{Verb}
 use Rattle.types.specs.declared.Refusal.{Refusal}
 use Rattle.ring.specs.Held.{places_of}
 use Rattle.ring.proofs.Emptying.{free_places}
+use Rattle.packed.specs.Unpacked.{packed_sizes}
 use Rattle.rules.specs.Locks.{Lock}
 use Rattle.rules.specs.Steps.{Answer, refused, accepted, after, after_making}
 use Rattle.rules.specs.Records.{words_of, making_words}
@@ -40,9 +41,9 @@ making_agrees tasks spin l (Err r) b out = record { answer = refl; lock = out.lo
 
 command_agrees : (c : Command) (b : Setup) → Ready b → Agrees (command_run c b) (command_reply b.lock c)
 command_agrees (Make tasks spin) b ready =
-    subst (λ x. Agrees (ran (answered (made_of x)) (setup_made tasks spin b)) (command_reply b.lock (Make tasks spin))) (sym (making_room tasks spin b ready)) (making_agrees tasks spin b.lock _ (setup_made tasks spin b) (making_out tasks spin b _ ready refl))
+    subst (λ x. Agrees (ran (answered (made_of x)) (setup_made packed_sizes tasks spin b)) (command_reply b.lock (Make tasks spin))) (sym (making_room packed_sizes tasks spin b ready)) (making_agrees tasks spin b.lock _ (setup_made packed_sizes tasks spin b) (making_out packed_sizes tasks spin b _ ready refl))
 command_agrees (CallOf verb t) b ready =
-    subst (λ a. Agrees (ran (answered (result_of a)) (setup_called verb t b)) (command_reply b.lock (CallOf verb t))) (sym (call_room verb t b ready)) (call_agrees verb t b.lock _ (setup_called verb t b) (call_out verb t b _ ready refl))
+    subst (λ a. Agrees (ran (answered (result_of a)) (setup_called packed_sizes verb t b)) (command_reply b.lock (CallOf verb t))) (sym (call_room packed_sizes verb t b ready)) (call_agrees verb t b.lock _ (setup_called packed_sizes verb t b) (call_out packed_sizes verb t b _ ready refl))
 
 read_agrees : (r : Result Command Fault) (b : Setup) → Ready b → Agrees (read_run r b) (read_reply b.lock r)
 read_agrees (Ok c) b ready = command_agrees c b ready

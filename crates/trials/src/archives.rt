@@ -16,14 +16,15 @@ fn words_of_the_layout(rt: HostRuntime) {
         task: 1,
         direction: Direction::Write,
     });
-    assert_eq!(rt; write(making), Some(0x1000_ff40));
-    assert_eq!(rt; write(call), Some(0x2400_003f));
-    assert_eq!(rt; write(outcome), Some(0x3600_0002));
-    assert_eq!(rt; write(notice), Some(0x4000_0101));
-    assert_eq!(rt; read(0x1000_ff40), Some(making));
-    assert_eq!(rt; read(0x2400_003f), Some(call));
-    assert_eq!(rt; read(0x3600_0002), Some(outcome));
-    assert_eq!(rt; read(0x4000_0101), Some(notice));
+    for (word, bits) in [
+        (making, 0x1000_ff40),
+        (call, 0x2400_003f),
+        (outcome, 0x3600_0002),
+        (notice, 0x4000_0101),
+    ] {
+        assert_eq!(rt; write(word), Some(bits));
+        assert_eq!(rt; read(bits), Some(word));
+    }
 }
 
 #[test]
@@ -42,21 +43,19 @@ fn words_outside_the_layout(rt: HostRuntime) {
     ] {
         assert_eq!(rt; read(bits), None);
     }
-    assert_eq!(rt;
-        write(ArchiveWord::Call {
+    for word in [
+        ArchiveWord::Call {
             verb: Verb::Move,
             task: 64,
-        }),
-        None
-    );
-    assert_eq!(rt; write(ArchiveWord::Outcome(Outcome::Passed(65))), None);
-    assert_eq!(rt;
-        write(ArchiveWord::Notice(Entry {
+        },
+        ArchiveWord::Outcome(Outcome::Passed(65)),
+        ArchiveWord::Notice(Entry {
             task: 255,
             direction: Direction::Read,
-        })),
-        None
-    );
+        }),
+    ] {
+        assert_eq!(rt; write(word), None);
+    }
 }
 
 #[test]

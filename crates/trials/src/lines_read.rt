@@ -11,49 +11,22 @@ fn refused(rt: &impl Abort, line: &[u8], refusal: Refusal, place: usize) {
     assert_eq!(rt; command(line), Err(Fault { refusal, place }));
 }
 
+fn make(tasks: u16, spin: u16) -> Command {
+    Command::Make { tasks, spin }
+}
+
+fn call(verb: Verb, task: u16) -> Command {
+    Command::Call { verb, task }
+}
+
 #[test]
 fn lines_that_are_commands(rt: HostRuntime) {
-    accepted(&rt, b"n 3 0", Command::Make { tasks: 3, spin: 0 });
-    accepted(
-        &rt,
-        b"n 999 256",
-        Command::Make {
-            tasks: 999,
-            spin: 256,
-        },
-    );
-    accepted(
-        &rt,
-        b"r 2",
-        Command::Call {
-            verb: Verb::ClaimRead,
-            task: 2,
-        },
-    );
-    accepted(
-        &rt,
-        b"w 12",
-        Command::Call {
-            verb: Verb::ClaimWrite,
-            task: 12,
-        },
-    );
-    accepted(
-        &rt,
-        b"m 0",
-        Command::Call {
-            verb: Verb::Move,
-            task: 0,
-        },
-    );
-    accepted(
-        &rt,
-        b"l 64",
-        Command::Call {
-            verb: Verb::Leave,
-            task: 64,
-        },
-    );
+    accepted(&rt, b"n 3 0", make(3, 0));
+    accepted(&rt, b"n 999 256", make(999, 256));
+    accepted(&rt, b"r 2", call(Verb::ClaimRead, 2));
+    accepted(&rt, b"w 12", call(Verb::ClaimWrite, 12));
+    accepted(&rt, b"m 0", call(Verb::Move, 0));
+    accepted(&rt, b"l 64", call(Verb::Leave, 64));
 }
 
 #[test]

@@ -57,8 +57,8 @@ fn bits_of_the_packed_word(rt: HostRuntime) {
 
 #[test]
 fn sizes_of_the_kinds(rt: HostRuntime) {
-    assert_eq!(rt; <Packed as LockWord>::group_count(), 1);
-    assert_eq!(rt; <Packed as LockWord>::count_limit(), 536_870_911);
-    assert_eq!(rt; <Grouped as LockWord>::group_count(), 8);
-    assert_eq!(rt; <Grouped as LockWord>::count_limit(), 65_535);
+    assert_eq!(rt; <Packed as LockWord>::GROUPS, 1);
+    assert_eq!(rt; <Packed as LockWord>::LIMIT, 536_870_911);
+    assert_eq!(rt; <Grouped as LockWord>::GROUPS, 8);
+    assert_eq!(rt; <Grouped as LockWord>::LIMIT, 65_535);
 }

@@ -1,16 +1,16 @@
 use Rattle.std.proofs.Common.{vec_items, refl, ap}
 use Rattle.std.proofs.lemmas.Result.{IfOk-weaker}
 use Rattle.ring.specs.HeldOf.{held_of}
-use Rattle.driver.specs.Meaning.{setup_of}
+use Rattle.driver.specs.Meaning.{packed_setup}
 use Rattle.transcript.specs.Steps.{Emptied, Answered}
 use Rattle.transcript.proofs.Answering.{accepted_line, refused_line}
 use Rattle.transcript.proofs.answer_line.Goals as goal
 
 pub returns-in-Ok : goal.returns-in-Ok
 returns-in-Ok c =
-    let b = setup_of c.args.lock.now c.args.notices.now c.args.archive.now in
-    let b' = setup_of c.run_line.new.lock c.run_line.new.notices c.run_line.new.archive in
-    let b'' = setup_of c.run_line.new.lock c.clear.new.self c.push_words.new.archive in
+    let b = packed_setup c.args.setup.now in
+    let b' = packed_setup c.run_line.new.self in
+    let b'' = packed_setup (record { lock = c.run_line.new.self.lock; notices = c.clear.new.self; archive = c.push_words.new.archive }) in
     let sofar = vec_items c.args.text.now in
     let text = vec_items c.push_words.new.text in
     let line = c.args.line.now in
@@ -20,9 +20,9 @@ returns-in-Ok c =
 
 pub returns-in-Err : goal.returns-in-Err
 returns-in-Err c =
-    let b = setup_of c.args.lock.now c.args.notices.now c.args.archive.now in
-    let b' = setup_of c.run_line.new.lock c.run_line.new.notices c.run_line.new.archive in
+    let b = packed_setup c.args.setup.now in
+    let b' = packed_setup c.run_line.new.self in
     let same = c.run_line.ensures.same c.in-Err.trouble c.in-Err.is in
     record {
-      answered = IfOk-weaker _ _ _ (λ _ wrote. refused_line c.args.line.now b b' c.run_line.result c.in-Err.trouble (vec_items c.args.text.now) (vec_items c.push_trouble.new.text) c.requires.ready c.in-Err.is c.run_line.ensures.ran (ap held_of same.1) (ap held_of same.2) wrote) c.push_trouble.ensures;
+      answered = IfOk-weaker _ _ _ (λ _ wrote. refused_line c.args.line.now b b' c.run_line.result c.in-Err.trouble (vec_items c.args.text.now) (vec_items c.push_trouble.new.text) c.requires.ready c.in-Err.is c.run_line.ensures.ran (ap (λ k. held_of k.notices) same) (ap (λ k. held_of k.archive) same) wrote) c.push_trouble.ensures;
     }
