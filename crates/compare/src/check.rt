@@ -1,43 +1,43 @@
-// What the two answer, where they first differ.
-#[derive(Clone, Copy)]
-pub struct Difference {
-    pub what: &'static str,
-    pub at: usize,
-    pub library: u32,
-    pub plain: u32,
+use std::alloc::{AllocError, Global};
+use std::fmt::Debug;
+use thiserror::Error;
+
+// The first difference in words, or that memory ran out.
+#[derive(Debug, Drop, Error)]
+pub enum Failure {
+    #[error("{0}")]
+    Differ(String),
+    #[error(transparent)]
+    Memory(#[from(alloc)] AllocError),
 }
 
-// Keeps the first difference of the answers that it is shown.
+// Compares answers at one step: a call of a list, or a form of an archive.
 #[derive(Clone, Copy)]
 pub struct Check {
-    pub first: Option<Difference>,
+    heap: Global,
+    step: u32,
 }
 
 impl Check {
-    pub(crate) fn new() -> Check {
-        Check { first: None }
+    pub(crate) fn at_step(heap: Global, step: u32) -> Check {
+        Check { heap, step }
     }
 
-    pub(crate) fn differs(&self) -> bool {
-        self.first.is_some()
-    }
-
-    pub(crate) fn same(&mut self, what: &'static str, at: usize, library: u32, plain: u32) {
-        if library != plain && self.first.is_none() {
-            self.first = Some(Difference {
-                what,
-                at,
-                library,
-                plain,
-            });
+    // An error where the two answer otherwise to what was asked, at this place.
+    pub(crate) fn same<T: PartialEq + Debug + Drop>(
+        self,
+        what: &str,
+        at: usize,
+        library: T,
+        plain: T,
+    ) -> Result<(), Failure> {
+        if library == plain {
+            return Ok(());
         }
+        let step = self.step;
+        let difference = format!(in self.heap;
+            "step {step}: {what} ({at}): library {library:?}, plain {plain:?}"
+        )?;
+        Err(Failure::Differ(difference))
     }
-
-    pub(crate) fn same_size(&mut self, what: &'static str, library: usize, plain: usize) {
-        self.same(what, 0, short(library), short(plain));
-    }
-}
-
-fn short(number: usize) -> u32 {
-    u32::try_from(number).unwrap_or(u32::MAX)
 }

@@ -1,3 +1,5 @@
+ghost use Rattle.std.specs.Prelude.{◌<◌, length};
+
 // A linear congruential generator: the same numbers in every run.
 #[derive(Clone, Copy)]
 pub struct Dice {
@@ -17,8 +19,7 @@ impl Dice {
             .state
             .wrapping_mul(6_364_136_223_846_793_005)
             .wrapping_add(1_442_695_040_888_963_407);
-        let [a, b, c, d, ..] = self.state.to_be_bytes();
-        u32::from_be_bytes([a, b, c, d])
+        (self.state >> 32) as u32
     }
 
     // A number below n, or 0 where there is none.
@@ -30,12 +31,14 @@ impl Dice {
         self.below(n) == 0
     }
 
+    // A place of a list of this length, or 0 where there is none.
     pub(crate) fn index(&mut self, len: usize) -> usize {
-        self.below(u32::try_from(len).unwrap_or(u32::MAX)) as usize
+        (self.roll() as usize).checked_rem(len).unwrap_or(0)
     }
 
-    pub(crate) fn of(&mut self, list: &[u32]) -> u32 {
-        let index = self.index(list.len());
-        list.get(index).copied().unwrap_or(0)
+    pub(crate) fn of<T: Copy>(&mut self, list: &[T]) -> T
+        requires { 0 < length list.now }
+    {
+        list[self.roll() as usize % list.len()]
     }
 }

@@ -1,36 +1,25 @@
-use lock::Lock;
-use plain::{Call, Order, Verb};
+use driver::Setup;
+use plain::{Order, Verb};
 use queue::WaitQueue;
-use ring::Ring;
-use types::{Direction, Entry, Outcome, Refusal};
+use types::{Outcome, Refusal};
 use word::LockWord;
 
-fn call<W: LockWord + Drop, Q: WaitQueue + Drop>(
-    lock: &mut Lock<W, Q>,
-    notices: &mut Ring<Entry>,
-    archive: &mut Ring<u32>,
-    call: Call,
-) -> Result<Outcome, Refusal> {
-    match call.verb {
-        Verb::ClaimToRead => lock.claim(call.task, Direction::Read, archive),
-        Verb::ClaimToWrite => lock.claim(call.task, Direction::Write, archive),
-        Verb::Move => lock.advance(call.task, notices, archive),
-        Verb::Leave => lock.leave(call.task, archive),
+fn verb(verb: Verb) -> types::Verb {
+    match verb {
+        Verb::ClaimToRead => types::Verb::ClaimRead,
+        Verb::ClaimToWrite => types::Verb::ClaimWrite,
+        Verb::Move => types::Verb::Move,
+        Verb::Leave => types::Verb::Leave,
     }
 }
 
-// Carries an order out on the library's lock. A making has no outcome.
+// Carries an order out on the library's lock with its rings. A making has no outcome.
 pub(crate) fn carry_out<W: LockWord + Drop, Q: WaitQueue + Drop>(
-    lock: &mut Lock<W, Q>,
-    notices: &mut Ring<Entry>,
-    archive: &mut Ring<u32>,
+    library: &mut Setup<W, Q>,
     order: Order,
 ) -> Result<Option<Outcome>, Refusal> {
     match order {
-        Order::Make { tasks, spin } => {
-            lock.make(tasks, spin, archive)?;
-            Ok(None)
-        }
-        Order::Call(order) => Ok(Some(call(lock, notices, archive, order)?)),
+        Order::Make { tasks, spin } => library.make(tasks, spin).map(|_| None),
+        Order::Call(call) => library.call(verb(call.verb), call.task).map(Some),
     }
 }

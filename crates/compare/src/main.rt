@@ -23,10 +23,11 @@ mod questions;
 mod rings;
 mod tally;
 mod texts;
+mod translated;
 mod twin;
 
 use archives::compare_archive;
-use check::Check;
+use check::Failure;
 use codes::compare_word;
 use locks::compare_list;
 use plan::Plan;
@@ -47,21 +48,16 @@ fn judge(
     rt: &HostRuntime,
     kind: &str,
     seed: u32,
-    tally: &Tally,
-    check: &Check,
+    compared: Result<(), Failure>,
 ) -> anyhow::Result<()> {
-    let Some(difference) = check.first else {
-        return Ok(());
-    };
-    let what = difference.what;
-    let at = difference.at;
-    let library = difference.library;
-    let plain = difference.plain;
-    let place = tally.place;
-    println!(rt;
-        "{kind}, seed {seed}, step {place}: {what} ({at}): library {library}, plain {plain}"
-    )?;
-    Err(anyhow!("the two differ"))
+    match compared {
+        Ok(()) => Ok(()),
+        Err(Failure::Memory(error)) => Err(error.into()),
+        Err(Failure::Differ(difference)) => {
+            println!(rt; "{kind}, seed {seed}, {difference}")?;
+            Err(anyhow!("the two differ"))
+        }
+    }
 }
 
 fn compare_locks<W: LockWord + Bits + Drop, Q: WaitQueue + Drop>(
@@ -71,18 +67,18 @@ fn compare_locks<W: LockWord + Bits + Drop, Q: WaitQueue + Drop>(
 ) -> anyhow::Result<()> {
     let before = tally.calls;
     for seed in 0..LISTS {
-        let check = compare_list::<W, Q>(tally, &Plan::drawn(seed));
-        judge(rt, kind, seed, tally, &check)?;
+        let compared = compare_list::<W, Q>(rt.alloc(), tally, &Plan::drawn(seed));
+        judge(rt, kind, seed, compared)?;
     }
-    let calls = tally.calls.wrapping_sub(before);
+    let calls = tally.calls.saturating_sub(before);
     println!(rt; "{kind}: {calls} calls in {LISTS} lists")?;
     Ok(())
 }
 
 fn compare_texts(rt: &HostRuntime, tally: &mut Tally) -> anyhow::Result<()> {
     for seed in 0..TEXTS {
-        let check = compare_text(rt.alloc(), tally, seed)?;
-        judge(rt, "drill", seed, tally, &check)?;
+        let compared = compare_text(rt.alloc(), tally, seed);
+        judge(rt, "drill", seed, compared)?;
     }
     let lines = tally.lines;
     println!(rt; "drill: {lines} lines in {TEXTS} texts")?;
@@ -91,8 +87,8 @@ fn compare_texts(rt: &HostRuntime, tally: &mut Tally) -> anyhow::Result<()> {
 
 fn compare_words(rt: &HostRuntime, tally: &mut Tally) -> anyhow::Result<()> {
     for seed in 0..WORDS {
-        let check = compare_word(tally, seed);
-        judge(rt, "words", seed, tally, &check)?;
+        let compared = compare_word(rt.alloc(), tally, seed);
+        judge(rt, "words", seed, compared)?;
     }
     let words = tally.words;
     println!(rt; "words: {words}")?;
@@ -101,8 +97,8 @@ fn compare_words(rt: &HostRuntime, tally: &mut Tally) -> anyhow::Result<()> {
 
 fn compare_archives(rt: &HostRuntime, tally: &mut Tally) -> anyhow::Result<()> {
     for seed in 0..ARCHIVES {
-        let check = compare_archive(tally, seed);
-        judge(rt, "archives", seed, tally, &check)?;
+        let compared = compare_archive(rt.alloc(), tally, seed);
+        judge(rt, "archives", seed, compared)?;
     }
     let archives = tally.archives;
     println!(rt; "archives: {archives}")?;
@@ -110,19 +106,17 @@ fn compare_archives(rt: &HostRuntime, tally: &mut Tally) -> anyhow::Result<()> {
 }
 
 fn print_times(rt: &HostRuntime, tally: &Tally) -> io::Result<()> {
-    for (number, times) in tally.outcomes.iter().enumerate() {
+    for (number, times) in &tally.outcomes {
         println!(rt; "outcome {number}: {times}")?;
     }
-    for (number, times) in tally.refusals.iter().enumerate() {
-        if number > 0 {
-            println!(rt; "refusal {number}: {times}")?;
-        }
+    for (number, times) in &tally.refusals {
+        println!(rt; "refusal {number}: {times}")?;
     }
     Ok(())
 }
 
 fn run(rt: &HostRuntime) -> anyhow::Result<()> {
-    let mut tally = Tally::empty();
+    let mut tally = Tally::empty(rt.alloc());
     compare_locks::<Packed, Chain>(rt, "packed and chain", &mut tally)?;
     compare_locks::<Packed, Strips>(rt, "packed and strips", &mut tally)?;
     compare_locks::<Grouped, Chain>(rt, "grouped and chain", &mut tally)?;

@@ -17,21 +17,19 @@ const ODD_NUMBERS: [u32; 12] = [
     u32::MAX,
 ];
 
-fn any_verb(dice: &mut Dice) -> Verb {
-    match dice.below(4) {
-        0 => Verb::ClaimToRead,
-        1 => Verb::ClaimToWrite,
-        2 => Verb::Move,
-        _ => Verb::Leave,
-    }
-}
+const VERBS: [Verb; 4] = [
+    Verb::ClaimToRead,
+    Verb::ClaimToWrite,
+    Verb::Move,
+    Verb::Leave,
+];
 
 // A verb that the task is likely to be granted.
 fn fit_verb(dice: &mut Dice, plan: &Plan, step: Step) -> Verb {
     match step {
         Step::Out if dice.one_in(plan.writers) => Verb::ClaimToWrite,
         Step::Out => Verb::ClaimToRead,
-        Step::Holding if dice.one_in(plan.patience) => Verb::Leave,
+        Step::Holding(_) if dice.one_in(plan.patience) => Verb::Leave,
         _ => Verb::Move,
     }
 }
@@ -61,12 +59,13 @@ fn making(dice: &mut Dice, plan: &Plan) -> Order {
 
 // The task that has the queue lock or must pass the lock on, or else the one that was called last.
 fn pressing_task(lock: &PlainLock, last: u32) -> u32 {
-    for task in 0..64 {
-        if let Some(Step::Queueing | Step::Owing | Step::Passing) = lock.step_of(task as usize) {
-            return task;
-        }
-    }
-    last
+    let is_pressing = |task: &u32| {
+        matches!(
+            lock.step_of(*task as usize),
+            Some(Step::Queueing(_) | Step::Owing | Step::Passing)
+        )
+    };
+    (0..64).find(is_pressing).unwrap_or(last)
 }
 
 fn next_task(dice: &mut Dice, plan: &Plan, lock: &PlainLock, last: u32) -> u32 {
@@ -90,14 +89,13 @@ pub(crate) fn task_of(order: Order) -> u32 {
 }
 
 pub(crate) fn next_order(dice: &mut Dice, plan: &Plan, lock: &PlainLock, last: u32) -> Order {
-    let blank = lock.rows.len() == 0;
-    if dice.one_in(if blank { 3 } else { 100 }) {
+    if dice.one_in(if lock.rows.is_empty() { 3 } else { 100 }) {
         return making(dice, plan);
     }
     let task = next_task(dice, plan, lock, last);
-    let verb = match lock.rows.get(task as usize) {
-        Some(row) if !dice.one_in(6) => fit_verb(dice, plan, row.step),
-        _ => any_verb(dice),
+    let verb = match lock.step_of(task as usize) {
+        Some(step) if !dice.one_in(6) => fit_verb(dice, plan, step),
+        _ => dice.of(&VERBS),
     };
     Order::Call(Call { verb, task })
 }

@@ -26,22 +26,16 @@ const SPINS: [u32; 3] = [0, 1, 255];
 impl Plan {
     pub(crate) fn drawn(seed: u32) -> Plan {
         let mut dice = Dice::seeded(seed);
-        let tasks = TASKS.get(seed as usize % 5).copied().unwrap_or(1);
-        let spin = SPINS.get(seed as usize / 5 % 3).copied().unwrap_or(0);
-        let length: u32 = if spin > 1 { 2_000 } else { 1_000 };
+        let tasks = TASKS[seed as usize % TASKS.len()];
+        let spin = SPINS[seed as usize / TASKS.len() % SPINS.len()];
+        let length = if spin > 1 { 2_000 } else { 1_000 };
         Plan {
             seed,
             tasks,
             spin,
-            notice_places: dice.of(&[0, 1, 2, 3, 64, 64, 64, 100]) as usize,
-            archive_places: dice.of(&[
-                0, 1, 2, 3, 4, 5, 8, 66, 66, 66, 66, 66, 66, 100, 100, 100,
-            ]) as usize,
-            calls: if tasks > 8 {
-                length.wrapping_mul(5)
-            } else {
-                length
-            },
+            notice_places: dice.of(&[0, 1, 2, 3, 64, 64, 64, 100]),
+            archive_places: dice.of(&[0, 1, 2, 3, 4, 5, 8, 66, 66, 66, 66, 66, 66, 100, 100, 100]),
+            calls: if tasks > 8 { 5 * length } else { length },
             wander: dice.of(&[1, 2, 8, 64]),
             patience: dice.of(&[1, 4, 64, 600]),
             idle: dice.of(&[1, 1, 2, 8]),

@@ -1,66 +1,78 @@
-use crate::check::Check;
+use crate::check::{Check, Failure};
 use crate::dice::Dice;
-use crate::questions::{entry_number, waiter_number};
+use crate::translated::waiter;
 use crate::twin::Twin;
-use ring::Ring;
+use driver::Setup;
 use types::Entry;
 
-pub(crate) fn same_rooms(
-    check: &mut Check,
-    notices: &Ring<Entry>,
-    archive: &Ring<u32>,
+pub(crate) fn same_rooms<W, Q>(
+    check: Check,
+    library: &Setup<W, Q>,
     twin: &Twin,
-) {
-    check.same_size("free notice places", notices.free(), twin.notices.free());
-    check.same_size("free archive places", archive.free(), twin.archive.free());
-    check.same_size("notices kept", notices.len(), twin.notices.len());
-    check.same_size("words kept", archive.len(), twin.archive.len());
+) -> Result<(), Failure> {
+    check.same(
+        "free notice places",
+        0,
+        library.notices.free(),
+        twin.notices.free(),
+    )?;
+    check.same(
+        "free archive places",
+        0,
+        library.archive.free(),
+        twin.archive.free(),
+    )?;
+    check.same("notices kept", 0, library.notices.len(), twin.notices.len())?;
+    check.same("words kept", 0, library.archive.len(), twin.archive.len())
 }
 
 // Takes some words out of both archives, perhaps one more than there are.
-pub(crate) fn take_words(
-    check: &mut Check,
+pub(crate) fn take_words<W, Q>(
+    check: Check,
     dice: &mut Dice,
-    archive: &mut Ring<u32>,
+    library: &mut Setup<W, Q>,
     twin: &mut Twin,
-) {
-    for _ in 0..dice.index(archive.len().wrapping_add(2)) {
-        let library = archive.take();
-        let plain = twin.archive.take();
-        check.same(
-            "a word taken",
-            0,
-            u32::from(library.is_some()),
-            u32::from(plain.is_some()),
-        );
-        check.same("word taken", 0, library.unwrap_or(0), plain.unwrap_or(0));
+) -> Result<(), Failure> {
+    for _ in 0..dice.index(library.archive.len().saturating_add(2)) {
+        check.same("word taken", 0, library.archive.take(), twin.archive.take())?;
     }
+    Ok(())
 }
 
-pub(crate) fn take_notices(
-    check: &mut Check,
+pub(crate) fn take_notices<W, Q>(
+    check: Check,
     dice: &mut Dice,
-    notices: &mut Ring<Entry>,
+    library: &mut Setup<W, Q>,
     twin: &mut Twin,
-) {
-    for _ in 0..dice.index(notices.len().wrapping_add(2)) {
-        let library = entry_number(notices.take());
+) -> Result<(), Failure> {
+    for _ in 0..dice.index(library.notices.len().saturating_add(2)) {
         check.same(
             "notice taken",
             0,
-            library,
-            waiter_number(twin.notices.take()),
-        );
+            library.notices.take().map(waiter),
+            twin.notices.take(),
+        )?;
     }
+    Ok(())
 }
 
 // The lent lists, once the rings have ended.
-pub(crate) fn same_lists(check: &mut Check, notices: &[Entry], archive: &[u32], twin: &Twin) {
+pub(crate) fn same_lists(
+    check: Check,
+    notices: &[Entry],
+    archive: &[u32],
+    twin: &Twin,
+) -> Result<(), Failure> {
     for (place, notice) in notices.iter().enumerate() {
-        let plain = waiter_number(Some(twin.notices.at_place(place)));
-        check.same("notice at place", place, entry_number(Some(*notice)), plain);
+        check.same(
+            "notice at place",
+            place,
+            waiter(*notice),
+            twin.notices.at_place(place),
+        )?;
     }
     for (place, word) in archive.iter().enumerate() {
-        check.same("word at place", place, *word, twin.archive.at_place(place));
+        check.same("word at place", place, *word, twin.archive.at_place(place))?;
     }
+    Ok(())
 }

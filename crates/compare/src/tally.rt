@@ -1,56 +1,55 @@
-// How many were compared, and how often each outcome and each refusal came.
-#[derive(Clone, Copy)]
+use plain::Refusal;
+use std::alloc::{AllocError, Global};
+use std::collections::BTreeMap;
+
+// How many were compared, and how often each outcome and each refusal came, by its number.
+#[derive(Drop)]
 pub struct Tally {
-    // Which call of a list, or which form of an archive, was compared last.
-    pub place: u32,
     pub calls: u64,
     pub lines: u64,
     pub words: u64,
     pub archives: u64,
-    pub outcomes: [u64; 10],
-    // At 0 stands nothing.
-    pub refusals: [u64; 18],
+    pub outcomes: BTreeMap<u8, u64>,
+    pub refusals: BTreeMap<u8, u64>,
+}
+
+fn count(times: &mut BTreeMap<u8, u64>, number: u8) -> Result<(), AllocError> {
+    let times = times.entry(number)?.or_insert(0);
+    *times = times.saturating_add(1);
+    Ok(())
 }
 
 impl Tally {
-    pub(crate) fn empty() -> Tally {
+    pub(crate) fn empty(heap: Global) -> Tally {
         Tally {
-            place: 0,
             calls: 0,
             lines: 0,
             words: 0,
             archives: 0,
-            outcomes: [0; 10],
-            refusals: [0; 18],
+            outcomes: BTreeMap::new(heap),
+            refusals: BTreeMap::new(heap),
         }
     }
 
-    pub(crate) fn outcome(&mut self, number: u32) {
-        if let Some(times) = self.outcomes.get_mut(number as usize) {
-            *times = times.wrapping_add(1);
-        }
+    pub(crate) fn outcome(&mut self, number: u8) -> Result<(), AllocError> {
+        count(&mut self.outcomes, number)
     }
 
-    pub(crate) fn refusal(&mut self, number: u32) {
-        if let Some(times) = self.refusals.get_mut(number as usize) {
-            *times = times.wrapping_add(1);
+    pub(crate) fn refusal(&mut self, number: u8) -> Result<(), AllocError> {
+        count(&mut self.refusals, number)
+    }
+
+    pub(crate) fn archive(&mut self, refusal: Option<Refusal>) -> Result<(), AllocError> {
+        self.archives = self.archives.saturating_add(1);
+        match refusal {
+            Some(refusal) => self.refusal(refusal.number()),
+            None => Ok(()),
         }
     }
 
     // Whether each outcome from 0 to 9 and each refusal from 1 to 17 came.
     pub(crate) fn is_full(&self) -> bool {
-        let mut missing: u32 = 0;
-        for times in self.outcomes.iter() {
-            if *times == 0 {
-                missing = missing.wrapping_add(1);
-            }
-        }
-        for times in self.refusals.iter() {
-            if *times == 0 {
-                missing = missing.wrapping_add(1);
-            }
-        }
-        // No refusal has the number 0.
-        missing == 1
+        (0..10).all(|number| self.outcomes.contains_key(&number))
+            && (1..18).all(|number| self.refusals.contains_key(&number))
     }
 }

@@ -1,193 +1,159 @@
-use crate::check::Check;
+use crate::check::{Check, Failure};
 use crate::dice::Dice;
 use crate::tally::Tally;
 use plain::drill;
 use std::alloc::{AllocError, Global};
 use transcript::transcript;
 
-const MOST: usize = 2_048;
+const ODD_NUMBERS: [&[u8]; 14] = [
+    b"",
+    b"00",
+    b"01",
+    b"007",
+    b"0000000000000000000000",
+    b"64",
+    b"65",
+    b"255",
+    b"256",
+    b"999",
+    b"1000",
+    b"4294967297",
+    b"99999999999999999999999999999999999999",
+    b"-1",
+];
 
-// A text for the drill. What is added past the end is lost.
-#[derive(Clone, Copy)]
-struct Text {
-    bytes: [u8; MOST],
-    len: usize,
+// A text for the drill that is drawn from the dice, as far as it is drawn.
+#[derive(Drop)]
+struct Draft {
+    heap: Global,
+    dice: Dice,
+    text: Vec<u8>,
 }
 
-impl Text {
-    fn add(&mut self, byte: u8) {
-        if let Some(place) = self.bytes.get_mut(self.len) {
-            *place = byte;
-            self.len = self.len.wrapping_add(1);
+impl Draft {
+    fn any_byte(&mut self) -> u8 {
+        self.dice.of(b"nrwmlNRx 0019-\t\r\0\x7f\x80\xa0\xff")
+    }
+
+    fn add_any_byte(&mut self) -> Result<(), AllocError> {
+        let byte = self.any_byte();
+        self.text.push(byte)?;
+        Ok(())
+    }
+
+    fn add_number(&mut self, below: u32) -> Result<(), AllocError> {
+        if self.dice.one_in(15) {
+            let odd = self.dice.of(&ODD_NUMBERS);
+            return self.text.extend_from_slice(odd);
+        }
+        let number = self.dice.below(below).min(99);
+        let digits = format!(in self.heap; "{number}")?;
+        self.text.extend_from_slice(digits.as_bytes())
+    }
+
+    // A space, or now and then nothing or another byte.
+    fn add_space(&mut self) -> Result<(), AllocError> {
+        match self.dice.below(40) {
+            0 => Ok(()),
+            1 => self.add_any_byte(),
+            _ => Ok(self.text.push(b' ')?),
         }
     }
 
-    fn add_all(&mut self, bytes: &[u8]) {
-        for byte in bytes {
-            self.add(*byte);
-        }
-    }
-}
-
-fn any_byte(dice: &mut Dice) -> u8 {
-    let bytes = b"nrwmlNRx 0019-\t\r\0\x7f\x80\xa0\xff";
-    bytes.get(dice.index(bytes.len())).copied().unwrap_or(0)
-}
-
-fn odd_number(dice: &mut Dice) -> &'static [u8] {
-    match dice.below(14) {
-        0 => b"",
-        1 => b"00",
-        2 => b"01",
-        3 => b"007",
-        4 => b"0000000000000000000000",
-        5 => b"64",
-        6 => b"65",
-        7 => b"255",
-        8 => b"256",
-        9 => b"999",
-        10 => b"1000",
-        11 => b"4294967297",
-        12 => b"99999999999999999999999999999999999999",
-        _ => b"-1",
-    }
-}
-
-fn add_number(dice: &mut Dice, text: &mut Text, below: u32) {
-    if dice.one_in(15) {
-        text.add_all(odd_number(dice));
-        return;
-    }
-    let number = dice.below(below).min(99);
-    if number > 9 {
-        text.add(b'0'.wrapping_add(u8::try_from(number / 10).unwrap_or(0)));
-    }
-    text.add(b'0'.wrapping_add(u8::try_from(number % 10).unwrap_or(0)));
-}
-
-// A space, or now and then nothing or another byte.
-fn add_space(dice: &mut Dice, text: &mut Text) {
-    match dice.below(40) {
-        0 => {}
-        1 => text.add(any_byte(dice)),
-        _ => text.add(b' '),
-    }
-}
-
-fn add_letter(dice: &mut Dice, text: &mut Text) -> u8 {
-    let letters = b"rwmmmmlln";
-    let letter = if dice.one_in(40) {
-        any_byte(dice)
-    } else {
-        letters
-            .get(dice.index(letters.len()))
-            .copied()
-            .unwrap_or(b'm')
-    };
-    text.add(letter);
-    letter
-}
-
-fn add_line(dice: &mut Dice, text: &mut Text, tasks: u32) {
-    let letter = add_letter(dice, text);
-    add_space(dice, text);
-    add_number(dice, text, tasks);
-    if letter == b'n' {
-        add_space(dice, text);
-        add_number(dice, text, 3);
-    }
-    if dice.one_in(40) {
-        text.add(any_byte(dice));
-    }
-}
-
-fn add_garbage(dice: &mut Dice, text: &mut Text) {
-    for _ in 0..dice.below(8) {
-        text.add(any_byte(dice));
-    }
-}
-
-fn drawn_text(dice: &mut Dice) -> Text {
-    let mut text = Text {
-        bytes: [0; MOST],
-        len: 0,
-    };
-    let tasks = dice.of(&[1, 2, 3, 4, 70]);
-    if !dice.one_in(8) {
-        text.add_all(b"n 4 0\n");
-    }
-    for _ in 0..dice.below(80) {
-        if dice.one_in(30) {
-            add_garbage(dice, &mut text);
+    fn add_letter(&mut self) -> Result<u8, AllocError> {
+        let letter = if self.dice.one_in(40) {
+            self.any_byte()
         } else {
-            add_line(dice, &mut text, tasks);
+            self.dice.of(b"rwmmmmlln")
+        };
+        self.text.push(letter)?;
+        Ok(letter)
+    }
+
+    fn add_line(&mut self, tasks: u32) -> Result<(), AllocError> {
+        let letter = self.add_letter()?;
+        self.add_space()?;
+        self.add_number(tasks)?;
+        if letter == b'n' {
+            self.add_space()?;
+            self.add_number(3)?;
         }
-        text.add(b'\n');
+        if self.dice.one_in(40) {
+            self.add_any_byte()?;
+        }
+        Ok(())
     }
-    if dice.one_in(2) {
-        add_line(dice, &mut text, tasks);
+
+    fn add_garbage(&mut self) -> Result<(), AllocError> {
+        for _ in 0..self.dice.below(8) {
+            self.add_any_byte()?;
+        }
+        Ok(())
     }
-    text
+
+    fn add_all(&mut self) -> Result<(), AllocError> {
+        let tasks = self.dice.of(&[1, 2, 3, 4, 70]);
+        if !self.dice.one_in(8) {
+            self.text.extend_from_slice(b"n 4 0\n")?;
+        }
+        for _ in 0..self.dice.below(80) {
+            if self.dice.one_in(30) {
+                self.add_garbage()?;
+            } else {
+                self.add_line(tasks)?;
+            }
+            self.text.push(b'\n')?;
+        }
+        if self.dice.one_in(2) {
+            self.add_line(tasks)?;
+        }
+        Ok(())
+    }
+}
+
+fn drawn_text(heap: Global, seed: u32) -> Result<Vec<u8>, AllocError> {
+    let mut draft = Draft {
+        heap,
+        dice: Dice::seeded(seed),
+        text: Vec::new(heap),
+    };
+    draft.add_all()?;
+    Ok(draft.text)
 }
 
 fn count_lines(tally: &mut Tally, text: &[u8]) {
-    for byte in text {
-        if *byte == b'\n' {
-            tally.lines = tally.lines.wrapping_add(1);
-        }
-    }
+    let lines = text.iter().filter(|byte| **byte == b'\n').count();
+    tally.lines = tally.lines.saturating_add(lines as u64);
 }
 
 // Counts the refusals by the numbers in "refused 7" and "refused 13 at 2".
-fn count_printed(tally: &mut Tally, printed: &[u8]) {
-    let mut column: usize = 0;
-    let mut number: u32 = 0;
-    let mut refused = false;
-    for byte in printed {
-        match *byte {
-            b'\n' if refused => {
-                tally.refusal(number);
-                column = 0;
-                number = 0;
-                refused = false;
-            }
-            b'\n' => column = 0,
-            digit if refused && (column == 8 || (column == 9 && digit != b' ')) => {
-                number = number
-                    .wrapping_mul(10)
-                    .wrapping_add(u32::from(digit).wrapping_sub(48));
-                column = column.wrapping_add(1);
-            }
-            other => {
-                refused = refused || (column == 0 && other == b'r');
-                column = column.wrapping_add(1);
-            }
+fn count_printed(tally: &mut Tally, printed: &str) -> Result<(), AllocError> {
+    for line in printed.lines() {
+        let Some(refused) = line.strip_prefix("refused ") else {
+            continue;
+        };
+        let number = refused.split_whitespace().next().unwrap_or_default();
+        if let Ok(number) = number.parse() {
+            tally.refusal(number)?;
         }
     }
+    Ok(())
 }
 
-fn same_bytes(check: &mut Check, library: &[u8], plain: &[u8]) {
-    for (place, byte) in plain.iter().enumerate() {
-        let other = library.get(place).copied().unwrap_or(0);
-        check.same("printed byte", place, u32::from(other), u32::from(*byte));
+fn same_bytes(check: Check, library: &[u8], plain: &[u8]) -> Result<(), Failure> {
+    for (place, (library, plain)) in library.iter().zip(plain).enumerate() {
+        check.same("printed byte", place, *library, *plain)?;
     }
-    check.same_size("number of printed bytes", library.len(), plain.len());
+    check.same("number of printed bytes", 0, library.len(), plain.len())
 }
 
 // One text, drawn from this seed, through both drills.
-pub(crate) fn compare_text(
-    heap: Global,
-    tally: &mut Tally,
-    seed: u32,
-) -> Result<Check, AllocError> {
-    let mut check = Check::new();
-    let mut dice = Dice::seeded(seed);
-    let text = drawn_text(&mut dice);
-    let (input, _) = text.bytes.split_at(text.len.min(MOST));
-    let plain = drill(heap, input)?;
-    let library = transcript(heap, input)?;
-    same_bytes(&mut check, &library, &plain);
-    count_lines(tally, input);
-    count_printed(tally, &plain);
-    Ok(check)
+pub(crate) fn compare_text(heap: Global, tally: &mut Tally, seed: u32) -> Result<(), Failure> {
+    let text = drawn_text(heap, seed)?;
+    let plain = drill(heap, &text)?;
+    let library = transcript(heap, &text)?;
+    same_bytes(Check::at_step(heap, 0), &library, plain.as_bytes())?;
+    count_lines(tally, &text);
+    count_printed(tally, plain.as_str())?;
+    Ok(())
 }

@@ -1,5 +1,5 @@
 use crate::plan::Plan;
-use plain::{Answer, Done, Order, PlainLock, PlainRing, Rooms, Waiter};
+use plain::{Answer, Order, PlainLock, PlainRing, Rooms, Waiter};
 
 // The plain lock with rings of its own.
 #[derive(Drop)]
@@ -11,25 +11,10 @@ pub struct Twin {
 
 impl Twin {
     pub(crate) fn blank(groups: u32, limit: u32, plan: &Plan) -> Twin {
-        let blank = Waiter {
-            task: 255,
-            writes: false,
-        };
         Twin {
-            lock: PlainLock::blank(groups, limit),
-            notices: PlainRing::over(plan.notice_places, blank),
-            archive: PlainRing::over(plan.archive_places, 0),
-        }
-    }
-
-    fn keep(&mut self, done: &Done) {
-        for i in 0..done.words.len() {
-            self.archive.put(done.words.get(i).unwrap_or(0));
-        }
-        for i in 0..done.taken.len() {
-            if let Some(waiter) = done.taken.get(i) {
-                self.notices.put(waiter);
-            }
+            lock: PlainLock::blank(groups as usize, limit),
+            notices: PlainRing::over(plan.notice_places),
+            archive: PlainRing::over(plan.archive_places),
         }
     }
 
@@ -38,10 +23,13 @@ impl Twin {
             notices: self.notices.free(),
             archive: self.archive.free(),
         };
-        let answer = self.lock.carry_out(order, rooms);
-        if let Ok(done) = answer {
-            self.keep(&done);
+        let done = self.lock.carry_out(order, rooms)?;
+        for word in &done.words {
+            self.archive.put(*word);
         }
-        answer
+        for waiter in &done.taken {
+            self.notices.put(*waiter);
+        }
+        Ok(done)
     }
 }

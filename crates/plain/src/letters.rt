@@ -1,74 +1,89 @@
+use crate::answers::Refusal;
 use crate::rows::{Call, Order, Verb};
 
-// The refusal's number, and the byte where the line fails.
+// The refusal, and the byte where the line fails.
 #[derive(Clone, Copy)]
 pub struct Fault {
-    pub refusal: u32,
+    pub refusal: Refusal,
     pub place: usize,
 }
 
-// The place behind a space at this place.
-fn space(line: &[u8], place: usize) -> Result<usize, Fault> {
-    match line.get(place) {
-        Some(b' ') => Ok(place.wrapping_add(1)),
-        _ => Err(Fault { refusal: 12, place }),
-    }
+// A line, and the place up to which it is read.
+#[derive(Drop)]
+struct Reader<'a> {
+    line: &'a [u8],
+    place: usize,
 }
 
-fn digit_at(line: &[u8], place: usize) -> Option<u32> {
-    match line.get(place) {
-        Some(byte) if *byte >= b'0' && *byte <= b'9' => Some(u32::from(*byte).wrapping_sub(48)),
-        _ => None,
+impl<'a> Reader<'a> {
+    fn fault(&self, refusal: Refusal) -> Fault {
+        Fault {
+            refusal,
+            place: self.place,
+        }
     }
-}
 
-// The number that begins at this place, and the place behind it.
-fn number(line: &[u8], place: usize) -> Result<(u32, usize), Fault> {
-    let mut value: u32 = 0;
-    let mut digits: usize = 0;
-    for i in place..line.len() {
-        let Some(digit) = digit_at(line, i) else {
-            break;
-        };
-        value = value.wrapping_mul(10).wrapping_add(digit);
-        digits = digits.wrapping_add(1);
+    // Moves on behind a space.
+    fn space(&mut self) -> Result<(), Fault> {
+        if self.line.get(self.place) != Some(&b' ') {
+            return Err(self.fault(Refusal::MissingSpace));
+        }
+        self.place += 1;
+        Ok(())
     }
-    let leading_zero = digits > 1 && digit_at(line, place) == Some(0);
-    if digits == 0 || digits > 3 || leading_zero {
-        return Err(Fault { refusal: 13, place });
+
+    // The number that begins here; moves on behind it.
+    fn number(&mut self) -> Result<u32, Fault> {
+        let rest = self.line.get(self.place..).unwrap_or_default();
+        let len = rest.iter().take_while(|byte| byte.is_ascii_digit()).count();
+        let leading_zero = len > 1 && rest.first() == Some(&b'0');
+        if len == 0 || len > 3 || leading_zero {
+            return Err(self.fault(Refusal::MalformedNumber));
+        }
+        self.place += len;
+        Ok(
+            rest.iter().take(len).fold(0u32, |value, digit| {
+                value
+                    .wrapping_mul(10)
+                    .wrapping_add(u32::from(digit.wrapping_sub(b'0')))
+            }),
+        )
     }
-    Ok((value, place.wrapping_add(digits)))
-}
 
-fn end(line: &[u8], place: usize) -> Result<(), Fault> {
-    match line.get(place) {
-        None => Ok(()),
-        Some(_) => Err(Fault { refusal: 14, place }),
+    fn end(&self) -> Result<(), Fault> {
+        if self.place < self.line.len() {
+            return Err(self.fault(Refusal::BytesLeftOver));
+        }
+        Ok(())
     }
-}
 
-fn read_call(line: &[u8], verb: Verb) -> Result<Order, Fault> {
-    let (task, behind) = number(line, space(line, 1)?)?;
-    end(line, behind)?;
-    Ok(Order::Call(Call { verb, task }))
-}
+    fn call(mut self, verb: Verb) -> Result<Order, Fault> {
+        self.space()?;
+        let task = self.number()?;
+        self.end()?;
+        Ok(Order::Call(Call { verb, task }))
+    }
 
-fn read_making(line: &[u8]) -> Result<Order, Fault> {
-    let (tasks, behind) = number(line, space(line, 1)?)?;
-    let (spin, behind) = number(line, space(line, behind)?)?;
-    end(line, behind)?;
-    Ok(Order::Make { tasks, spin })
+    fn making(mut self) -> Result<Order, Fault> {
+        self.space()?;
+        let tasks = self.number()?;
+        self.space()?;
+        let spin = self.number()?;
+        self.end()?;
+        Ok(Order::Make { tasks, spin })
+    }
 }
 
 pub(crate) fn read_line(line: &[u8]) -> Result<Order, Fault> {
+    let reader = Reader { line, place: 1 };
     match line.first() {
-        Some(b'n') => read_making(line),
-        Some(b'r') => read_call(line, Verb::ClaimToRead),
-        Some(b'w') => read_call(line, Verb::ClaimToWrite),
-        Some(b'm') => read_call(line, Verb::Move),
-        Some(b'l') => read_call(line, Verb::Leave),
+        Some(b'n') => reader.making(),
+        Some(b'r') => reader.call(Verb::ClaimToRead),
+        Some(b'w') => reader.call(Verb::ClaimToWrite),
+        Some(b'm') => reader.call(Verb::Move),
+        Some(b'l') => reader.call(Verb::Leave),
         _ => Err(Fault {
-            refusal: 11,
+            refusal: Refusal::UnknownLetter,
             place: 0,
         }),
     }

@@ -1,82 +1,47 @@
-use crate::list::List;
+use crate::rows::Direction;
+use arrayvec::ArrayVec;
 
-#[derive(Clone, Copy)]
+#[derive(Clone, Copy, PartialEq, Eq, Debug)]
 pub struct Waiter {
-    pub task: u32,
-    pub writes: bool,
+    pub task: u8,
+    pub direction: Direction,
 }
 
-pub type Waiters = List<Waiter, 64>;
-
-pub(crate) fn nobody() -> Waiters {
-    List::empty(Waiter {
-        task: 0,
-        writes: false,
-    })
-}
-
-fn writes_at(queue: &Waiters, place: usize) -> bool {
-    match queue.get(place) {
-        Some(waiter) => waiter.writes,
-        None => false,
-    }
-}
-
-// Where a newcomer goes: a writer to the end, a reader behind the last reader, or to the end when there is none.
-fn place_of(queue: &Waiters, newcomer: Waiter) -> usize {
-    let mut place = queue.len();
-    for i in 0..queue.len() {
-        if !newcomer.writes && !writes_at(queue, i) {
-            place = i.wrapping_add(1);
+// The blank notice: no task has the number 255.
+impl Default for Waiter {
+    fn default() -> Waiter {
+        Waiter {
+            task: 255,
+            direction: Direction::Read,
         }
     }
-    place
 }
 
-pub(crate) fn joined(queue: &Waiters, newcomer: Waiter) -> Waiters {
-    let place = place_of(queue, newcomer);
-    let mut longer = nobody();
-    for i in 0..queue.len() {
-        if i == place {
-            longer.push(newcomer);
-        }
-        if let Some(other) = queue.get(i) {
-            longer.push(other);
-        }
-    }
-    if place == queue.len() {
-        longer.push(newcomer);
-    }
-    longer
+pub type Waiters = ArrayVec<Waiter, 64>;
+
+// A writer goes to the end, a reader behind the last reader, or to the end when there is none.
+pub(crate) fn join(queue: &mut Waiters, newcomer: Waiter) {
+    let last_reader = queue
+        .iter()
+        .rposition(|waiter| waiter.direction == Direction::Read);
+    let place = match (newcomer.direction, last_reader) {
+        (Direction::Read, Some(place)) => place + 1,
+        _ => queue.len(),
+    };
+    // No task waits twice, so one of the 64 places is free.
+    let _ = queue.try_insert(place, newcomer);
 }
 
-// How many a pass takes: a writer at the front alone, or all readers at the front.
-pub(crate) fn taken_by_a_pass(queue: &Waiters) -> usize {
-    for place in 0..queue.len() {
-        if writes_at(queue, place) {
-            return place.max(1);
-        }
-    }
-    queue.len()
-}
-
-// The part of the queue from one place to before another.
-pub(crate) fn part(queue: &Waiters, from: usize, to: usize) -> Waiters {
-    let mut list = nobody();
-    for place in from..to {
-        if let Some(waiter) = queue.get(place) {
-            list.push(waiter);
-        }
-    }
-    list
+// Those whom a pass takes: a writer at the front alone, or all readers at the front.
+pub(crate) fn front(queue: &[Waiter]) -> &[Waiter] {
+    let readers = queue
+        .iter()
+        .take_while(|waiter| waiter.direction == Direction::Read)
+        .count();
+    queue.get(..readers.max(1)).unwrap_or(queue)
 }
 
 // Whether one of that direction waits.
-pub(crate) fn waits(queue: &Waiters, writes: bool) -> bool {
-    for place in 0..queue.len() {
-        if writes_at(queue, place) == writes {
-            return true;
-        }
-    }
-    false
+pub(crate) fn waits(queue: &[Waiter], direction: Direction) -> bool {
+    queue.iter().any(|waiter| waiter.direction == direction)
 }

@@ -1,49 +1,37 @@
+// What a task wants of the table of settings.
+#[derive(Clone, Copy, PartialEq, Eq, Debug)]
+pub enum Direction {
+    Read = 0,
+    Write = 1,
+}
+
 // Where a task stands.
-#[derive(Clone, Copy)]
+#[derive(Clone, Copy, PartialEq, Eq, Debug, Default)]
 pub enum Step {
+    #[default]
     Out,
-    Claiming,
-    AtQueueLock,
-    Queueing,
-    Queued,
-    Holding,
+    Claiming(Direction),
+    AtQueueLock(Direction),
+    Queueing(Direction),
+    Queued(Direction),
+    Holding(Direction),
     Owing,
     Passing,
 }
 
-#[derive(Clone, Copy)]
+#[derive(Clone, Copy, Default)]
 pub struct Row {
     pub step: Step,
-    pub writes: bool,
-    pub attempts: u32,
+    pub attempts: u16,
 }
 
-impl Row {
-    pub const OUT: Row = Row {
-        step: Step::Out,
-        writes: false,
-        attempts: 0,
-    };
-}
-
-#[derive(Clone, Copy)]
+// Each with its number in a call word.
+#[derive(Clone, Copy, PartialEq, Eq, Debug)]
 pub enum Verb {
-    ClaimToRead,
-    ClaimToWrite,
-    Move,
-    Leave,
-}
-
-impl Verb {
-    // As the verb stands in a call word.
-    pub fn number(self) -> u32 {
-        match self {
-            Verb::ClaimToRead => 1,
-            Verb::ClaimToWrite => 2,
-            Verb::Move => 3,
-            Verb::Leave => 4,
-        }
-    }
+    ClaimToRead = 1,
+    ClaimToWrite = 2,
+    Move = 3,
+    Leave = 4,
 }
 
 #[derive(Clone, Copy)]
@@ -64,4 +52,12 @@ pub enum Order {
 pub struct Rooms {
     pub notices: usize,
     pub archive: usize,
+}
+
+impl Rooms {
+    // Empty rings of 64 notices and 66 words, which have room for what any call writes.
+    pub const AMPLE: Rooms = Rooms {
+        notices: 64,
+        archive: 66,
+    };
 }

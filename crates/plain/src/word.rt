@@ -1,21 +1,21 @@
-use crate::list::List;
+use crate::rows::Direction;
+use arrayvec::ArrayVec;
+use std::iter::repeat_n;
 
 // Three marks and a list of reader counts, one for each group.
-#[derive(Clone, Copy)]
+#[derive(Drop)]
 pub struct PlainWord {
     pub locked: bool,
     pub writers_wait: bool,
     pub readers_wait: bool,
-    pub counts: List<u32, 64>,
+    pub counts: ArrayVec<u32, 64>,
     limit: u32,
 }
 
 impl PlainWord {
-    pub(crate) fn fresh(groups: u32, limit: u32) -> PlainWord {
-        let mut counts = List::empty(0);
-        for _ in 0..groups {
-            counts.push(0);
-        }
+    pub(crate) fn fresh(groups: usize, limit: u32) -> PlainWord {
+        let mut counts = ArrayVec::new();
+        let _ = counts.extend(repeat_n(0, groups));
         PlainWord {
             locked: false,
             writers_wait: false,
@@ -25,20 +25,24 @@ impl PlainWord {
         }
     }
 
-    fn group_of(&self, task: u32) -> usize {
-        (task as usize).checked_rem(self.counts.len()).unwrap_or(0)
+    fn group_of(&self, task: u8) -> usize {
+        usize::from(task)
+            .checked_rem(self.counts.len())
+            .unwrap_or(0)
     }
 
     pub(crate) fn nobody_reads(&self) -> bool {
-        for group in 0..self.counts.len() {
-            if self.counts.get(group) != Some(0) {
-                return false;
-            }
-        }
-        true
+        self.counts.iter().all(|count| *count == 0)
     }
 
-    pub(crate) fn enter_to_write(&mut self) -> bool {
+    pub(crate) fn enter(&mut self, task: u8, direction: Direction) -> bool {
+        match direction {
+            Direction::Read => !self.writers_wait && self.admit(task),
+            Direction::Write => self.enter_to_write(),
+        }
+    }
+
+    fn enter_to_write(&mut self) -> bool {
         let marked = self.locked || self.writers_wait || self.readers_wait;
         let enters = !marked && self.nobody_reads();
         if enters {
@@ -47,25 +51,22 @@ impl PlainWord {
         enters
     }
 
-    pub(crate) fn enter_to_read(&mut self, task: u32) -> bool {
-        !self.writers_wait && self.admit(task)
-    }
-
-    pub(crate) fn admit(&mut self, task: u32) -> bool {
+    pub(crate) fn admit(&mut self, task: u8) -> bool {
         let group = self.group_of(task);
-        let count = self.counts.get(group).unwrap_or(self.limit);
-        let enters = !self.locked && count < self.limit;
-        if enters {
-            self.counts.set(group, count.wrapping_add(1));
+        let limit = self.limit;
+        match self.counts.get_mut(group) {
+            Some(count) if !self.locked && *count < limit => {
+                *count += 1;
+                true
+            }
+            _ => false,
         }
-        enters
     }
 
-    pub(crate) fn leave_reading(&mut self, task: u32) {
+    pub(crate) fn leave_reading(&mut self, task: u8) {
         let group = self.group_of(task);
-        let count = self.counts.get(group).unwrap_or(0);
-        if count > 0 {
-            self.counts.set(group, count.wrapping_sub(1));
+        if let Some(count) = self.counts.get_mut(group) {
+            *count = count.saturating_sub(1);
         }
     }
 
@@ -77,11 +78,10 @@ impl PlainWord {
         leaves
     }
 
-    pub(crate) fn mark(&mut self, writes: bool) {
-        if writes {
-            self.writers_wait = true;
-        } else {
-            self.readers_wait = true;
+    pub(crate) fn mark(&mut self, direction: Direction) {
+        match direction {
+            Direction::Read => self.readers_wait = true,
+            Direction::Write => self.writers_wait = true,
         }
     }
 }
