@@ -8,16 +8,16 @@ use Rattle.queue.specs.Queues.{has_task, no_task_twice, can_join, placed}
 use Rattle.queue.proofs.Laws.{Lawful}
 use Rattle.queue.proofs.Members.{placed_has}
 use Rattle.strips.specs.declared.Strips.{Strips}
-use Rattle.strips.specs.Flags.{Flagged}
+use Rattle.strips.specs.Entries.{entries_of, Flagged}
 
-pub lawful : (q : Strips) → Lawful q.parts
+pub lawful : (q : Strips) → Lawful (entries_of q.parts)
 lawful q = record { in_range = q.in_range; none_twice = q.none_twice; neighbours = q.neighbours }
 
 -- A task below 64 whose flag is off may join.
-pub may_join : (q : Strips) (task : ℕ) → task < 64 → get_or q.present task false ≡ false → can_join task q.parts ≡ true
+pub may_join : (q : Strips) (task : ℕ) → task < 64 → get_or q.present task false ≡ false → can_join task (entries_of q.parts) ≡ true
 may_join q task small off =
     let absent = sym (q.flagged task small) ∙ off in
-    and_from (ltb task 64) (not (has_task task q.parts)) (lt-ltb task 64 small) (not_from_false (has_task task q.parts) absent)
+    and_from (ltb task 64) (not (has_task task (entries_of q.parts))) (lt-ltb task 64 small) (not_from_false (has_task task (entries_of q.parts)) absent)
 
 pub flagged_none : Flagged (replicate 64 false) []
 flagged_none t small = get_or-replicate 64 t false false small

@@ -11,6 +11,8 @@ use Rattle.types.specs.declared.Entry.{Entry}
 use Rattle.queue.specs.Queues.{has_reader, reader_count, behind_last_reader, placed, entry_at}
 use Rattle.queue.proofs.Members.{entry_at_near, entry_at_far}
 use Rattle.queue.proofs.Readers.{count_append}
+use Rattle.strips.specs.declared.strip.Strip.{Strip}
+use Rattle.strips.specs.Tasks.{tasks_of}
 use Rattle.strips.specs.Entries.{entry_of, entries_as, lined}
 
 pub length_lined : (ws rs vs : List ℕ) → length (lined ws rs vs) ≡ length ws + length rs + length vs
@@ -104,9 +106,9 @@ entry_at_as d zero t (x ∷ ts) found = let same : x ≡ t = cc in ap (λ y. Som
 entry_at_as d (suc n) t (x ∷ ts) found = entry_at_as d n t ts found
 
 -- The entries of strips of tasks, each of one direction, one strip after the other.
-abbrev pub sections : List (Bor (List ℕ) × Direction) → List Entry
+abbrev pub sections : List (Bor Strip × Direction) → List Entry
 sections [] = []
-sections (s ∷ ss) = entries_as s.1 s.0.now ++ sections ss
+sections (s ∷ ss) = entries_as s.1 (tasks_of s.0.now) ++ sections ss
 
 -- A place within the first strip, and one past it.
 pub found_in : (d : Direction) (n t : ℕ) (ts : List ℕ) (es : List Entry) → slice_get ts n ≡ Some t → entry_at n (entries_as d ts ++ es) ≡ Some (entry_of d t)
@@ -123,17 +125,17 @@ past_first d n ts es none =
     (past, entry_at_far n (entries_as d ts) es (simp length-map past) ∙ ap (λ m. entry_at (n - m) es) (length-map ts (entry_of d)))
 
 -- What is at a place from the strip i on, where that strip has a task at the place.
-pub found_at : (items : List (Bor (List ℕ) × Direction)) (i n t : ℕ) (s d : Bor (List ℕ) × Direction) (r : Option Entry) → entry_at n (sections (drop i items)) ≡ r → i < length items → slice_get (get_or items i s).0.now n ≡ Some t → Some (entry_of (get_or items i d).1 t) ≡ r
+pub found_at : (items : List (Bor Strip × Direction)) (i n t : ℕ) (s d : Bor Strip × Direction) (r : Option Entry) → entry_at n (sections (drop i items)) ≡ r → i < length items → slice_get (tasks_of (get_or items i s).0.now) n ≡ Some t → Some (entry_of (get_or items i d).1 t) ≡ r
 found_at items i n t s d r whole inside found =
     let item = get_or items i s in
-    let first = ap (entry_at n) (at_drop_more sections items i s inside) ∙ found_in item.1 n t item.0.now (sections (drop (i + 1) items)) found in
-    ap (λ (x : Bor (List ℕ) × Direction). Some (entry_of x.1 t)) (get_or_default items i d s inside) ∙ sym first ∙ whole
+    let first = ap (entry_at n) (at_drop_more sections items i s inside) ∙ found_in item.1 n t (tasks_of item.0.now) (sections (drop (i + 1) items)) found in
+    ap (λ (x : Bor Strip × Direction). Some (entry_of x.1 t)) (get_or_default items i d s inside) ∙ sym first ∙ whole
 
 -- What is at a place from the strip i on, where that strip ends before the place.
-pub past_at : (items : List (Bor (List ℕ) × Direction)) (i n : ℕ) (s : Bor (List ℕ) × Direction) (r : Option Entry) → entry_at n (sections (drop i items)) ≡ r → i < length items → slice_get (get_or items i s).0.now n ≡ None → (length (get_or items i s).0.now ≤ n) × (entry_at (n - length (get_or items i s).0.now) (sections (drop (i + 1) items)) ≡ r)
+pub past_at : (items : List (Bor Strip × Direction)) (i n : ℕ) (s : Bor Strip × Direction) (r : Option Entry) → entry_at n (sections (drop i items)) ≡ r → i < length items → slice_get (tasks_of (get_or items i s).0.now) n ≡ None → (length (tasks_of (get_or items i s).0.now) ≤ n) × (entry_at (n - length (tasks_of (get_or items i s).0.now)) (sections (drop (i + 1) items)) ≡ r)
 past_at items i n s r whole inside none =
     let item = get_or items i s in
-    let past = past_first item.1 n item.0.now (sections (drop (i + 1) items)) none in
+    let past = past_first item.1 n (tasks_of item.0.now) (sections (drop (i + 1) items)) none in
     (past.0, sym past.1 ∙ sym (ap (entry_at n) (at_drop_more sections items i s inside)) ∙ whole)
 
 pub sections_all : (ws rs vs : List ℕ) → entries_as Write ws ++ (entries_as Read rs ++ (entries_as Write vs ++ [])) ≡ lined ws rs vs

@@ -1,9 +1,11 @@
 -- What the three parts hold, as the list of entries of a wait queue. Assumes nothing.
-use Rattle.std.specs.Prelude.{◌≡◌, ℕ, List, ◌++◌, length, map}
+use Rattle.std.specs.Prelude.{◌≡◌, ℕ, ◌<◌, Bool, false, List, ◌++◌, map, slice_index_or}
 use Rattle.types.specs.declared.Direction.{Direction}
 use Rattle.types.specs.declared.Direction.TheVariants.{Read, Write}
 use Rattle.types.specs.declared.Entry.{Entry}
-use Rattle.strips.specs.declared.parts.Parts.TheInside.{Inside}
+use Rattle.queue.specs.Queues.{has_task}
+use Rattle.strips.specs.declared.parts.Parts.{Parts}
+use Rattle.strips.specs.Tasks.{tasks_of}
 
 -- A task with its direction.
 abbrev pub entry_of : Direction → ℕ → Entry
@@ -18,9 +20,9 @@ unfoldable pub lined : List ℕ → List ℕ → List ℕ → List Entry
 lined ws rs vs = entries_as Write ws ++ (entries_as Read rs ++ entries_as Write vs)
 
 -- The entries of the queue: those ahead as writers, the readers, and those behind as writers.
-abbrev pub entries_of : Inside → List Entry
-entries_of p = lined p.ahead p.readers p.behind
+abbrev pub entries_of : Parts → List Entry
+entries_of p = lined (tasks_of p.ahead) (tasks_of p.readers) (tasks_of p.behind)
 
--- Where there is no reader, no writer is behind the readers.
-abbrev pub IsSettled : Inside → Type 0
-IsSettled p = length p.readers ≡ 0 → length p.behind ≡ 0
+-- The flag of each task from 0 to 63 tells whether the task is in the list.
+abbrev pub Flagged : List Bool → List Entry → Type 0
+Flagged flags es = (t : ℕ) → t < 64 → slice_index_or flags t false ≡ has_task t es

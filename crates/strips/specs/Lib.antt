@@ -1,3 +1,2 @@
 pub mod Tasks
 pub mod Entries
-pub mod Flags

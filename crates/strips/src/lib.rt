@@ -3,7 +3,7 @@
 
 ghost use Rattle.std.specs.Prelude.{◌≡◌, true, length};
 ghost use Rattle.queue.specs.Queues.{tasks_in_range, no_task_twice, readers_are_neighbours};
-ghost use Rattle.strips.specs.Flags.{Flagged};
+ghost use Rattle.strips.specs.Entries.{entries_of, Flagged};
 ghost use Rattle.std.proofs.Common.{rules};
 
 mod parts;
@@ -20,14 +20,14 @@ pub struct Strips {
     parts: Parts,
     present: [bool; PLACES],
     ghost flags: { length present ≡ 64 },
-    ghost in_range: { tasks_in_range parts ≡ true },
-    ghost none_twice: { no_task_twice parts ≡ true },
-    ghost neighbours: { readers_are_neighbours parts ≡ true },
-    ghost flagged: { Flagged present parts },
+    ghost in_range: { tasks_in_range (entries_of parts) ≡ true },
+    ghost none_twice: { no_task_twice (entries_of parts) ≡ true },
+    ghost neighbours: { readers_are_neighbours (entries_of parts) ≡ true },
+    ghost flagged: { Flagged present (entries_of parts) },
 }
 
 impl WaitQueue for Strips {
-    ghost entries = { λ q. q.parts };
+    ghost entries = { λ q. entries_of q.parts };
 
     ghost in_range = { Prim.search rules };
 

@@ -3,14 +3,14 @@ use Rattle.std.proofs.lemmas.List.{length-set}
 use Rattle.queue.specs.Queues.{rest, no_task_twice}
 use Rattle.queue.proofs.Laws.{Lawful, rest_lawful}
 use Rattle.queue.proofs.Members.{first_and_rest}
-use Rattle.strips.specs.Flags.{Flagged}
+use Rattle.strips.specs.Entries.{entries_of, Flagged}
 use Rattle.strips.proofs.StripsWaitQueue.take_first.Goals as goal
 use Rattle.strips.proofs.Flags.{lawful, flagged_rest}
 
 pub invariant_of-self-2 : goal.invariant_of-self-2
 invariant_of-self-2 c =
     let q = c.args.self.now in
-    let es = q.parts in
+    let es = (entries_of q.parts) in
     let e = c.in_ok-first.first in
     let whole = first_and_rest e es (sym c.in_ok-first.was ∙ c.take_first.ensures.answer) in
     let after = sym c.take_first.ensures.queue in

@@ -1,12 +1,13 @@
-use Rattle.std.proofs.Common.{sym, ap, ◌∙◌}
+use Rattle.std.proofs.Common.{sym, ap}
 use Rattle.queue.specs.Queues.{entry_at}
+use Rattle.strips.specs.Tasks.{tasks_of}
 use Rattle.strips.proofs.Lined.{found_at, past_at, sections_all}
 use Rattle.strips.proofs.parts.Parts.entry_at.Goals as goal
 
 pub loop-strip-init : goal.loop-strip-init
 loop-strip-init c =
-    let p = c.self.inside in
-    ap (entry_at c.args.place) (sections_all p.ahead p.readers p.behind ∙ c.self.view_is)
+    let p = c.args.self.now in
+    ap (entry_at c.args.place) (sections_all (tasks_of p.ahead) (tasks_of p.readers) (tasks_of p.behind))
 
 pub returns-in-Some : goal.returns-in-Some
 returns-in-Some c =
