@@ -108,17 +108,12 @@ impl LockWord for Packed {
     }
 
     fn mark_waiters(&mut self, direction: Direction) {
-        match direction {
-            Direction::Read => {
-                if !self.readers_wait() {
-                    self.bits += R_WAITERS;
-                }
-            }
-            Direction::Write => {
-                if !self.writers_wait() {
-                    self.bits += W_WAITERS;
-                }
-            }
+        let mark = match direction {
+            Direction::Read => R_WAITERS,
+            Direction::Write => W_WAITERS,
+        };
+        if !self.has(mark) {
+            self.bits += mark;
         }
     }
 
