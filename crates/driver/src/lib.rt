@@ -1,4 +1,4 @@
-// What one line of the drill's input does to a lock and its two rings. Nothing allocates.
+// A lock with its two rings: what calls, and the lines of the drill's input, do to it. Nothing allocates.
 #![tactic(auto)]
 
 mod runs;

@@ -22,15 +22,15 @@ impl Direction {
     }
 }
 
-// A number that no direction or verb has.
+// A number that no value of the type asked for has.
 #[derive(Clone, Copy, PartialEq, Eq, Debug)]
 pub struct UnknownNumber(pub u32);
 
 impl fmt::Display for UnknownNumber {
-    ghost output = { λ unknown. Some (codes "nothing has the number " ++ decimal unknown.0) };
+    ghost output = { λ unknown. Some (codes "no value has the number " ++ decimal unknown.0) };
 
     fn fmt<W: fmt::Write>(&self, f: &mut fmt::Formatter<W>) -> fmt::Result {
-        write!(f, "nothing has the number {}", self.0)
+        write!(f, "no value has the number {}", self.0)
     }
 }
 
