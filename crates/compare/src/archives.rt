@@ -53,8 +53,9 @@ fn changed(dice: &mut Dice, words: &[u32], word: u32) -> u32 {
 }
 
 // What is done to an archive at one place.
-#[derive(Clone, Copy)]
+#[derive(Clone, Copy, Default)]
 enum Damage {
+    #[default]
     Change,
     Drop,
     Double,
@@ -102,7 +103,7 @@ fn damaged(heap: Global, dice: &mut Dice, words: &[u32]) -> Result<Vec<u32>, All
 fn compare_words(check: Check, words: &[u32]) -> Result<Retraced, Failure> {
     let library = retracing::retrace(words);
     let plain = plain::retrace(words);
-    check.same("records agreed", 0, library.agreed, plain.agreed)?;
+    check.same("records agreed", library.agreed, plain.agreed)?;
     same_refusal(check, library.refusal, plain.refusal)?;
     Ok(plain)
 }
@@ -113,7 +114,7 @@ pub(crate) fn compare_archive(heap: Global, tally: &mut Tally, seed: u32) -> Res
     let (words, accepted) = written(heap, &mut dice, &Plan::drawn(seed))?;
     let check = Check::at_step(heap, 0);
     let whole = compare_words(check, &words)?;
-    check.same("records of the whole archive", 0, whole.agreed, accepted)?;
+    check.same("records of the whole archive", whole.agreed, accepted)?;
     tally.archive(whole.refusal)?;
     for number in 1..21 {
         let list = damaged(heap, &mut dice, &words)?;

@@ -23,11 +23,10 @@ impl Check {
         Check { heap, step }
     }
 
-    // An error where the two answer otherwise to what was asked, at this place.
-    pub(crate) fn same<T: PartialEq + Debug + Drop>(
+    fn compare<T: PartialEq + Debug + Drop>(
         self,
         what: &str,
-        at: usize,
+        at: Option<usize>,
         library: T,
         plain: T,
     ) -> Result<(), Failure> {
@@ -35,9 +34,35 @@ impl Check {
             return Ok(());
         }
         let step = self.step;
-        let difference = format!(in self.heap;
-            "step {step}: {what} ({at}): library {library:?}, plain {plain:?}"
-        )?;
+        let difference = match at {
+            Some(at) => format!(in self.heap;
+                "step {step}: {what} {at}: library {library:?}, plain {plain:?}"
+            )?,
+            None => format!(in self.heap;
+                "step {step}: {what}: library {library:?}, plain {plain:?}"
+            )?,
+        };
         Err(Failure::Differ(difference))
+    }
+
+    // An error where the two answer otherwise to what was asked.
+    pub(crate) fn same<T: PartialEq + Debug + Drop>(
+        self,
+        what: &str,
+        library: T,
+        plain: T,
+    ) -> Result<(), Failure> {
+        self.compare(what, None, library, plain)
+    }
+
+    // The same where what was asked has a place or a number.
+    pub(crate) fn same_at<T: PartialEq + Debug + Drop>(
+        self,
+        what: &str,
+        at: usize,
+        library: T,
+        plain: T,
+    ) -> Result<(), Failure> {
+        self.compare(what, Some(at), library, plain)
     }
 }

@@ -15,7 +15,7 @@ pub(crate) fn any_word(dice: &mut Dice) -> u32 {
 }
 
 fn same_word(check: Check, word: u32) -> Result<(), Failure> {
-    check.same(
+    check.same_at(
         "meaning of the word",
         word as usize,
         archive::read(word).map(meaning),

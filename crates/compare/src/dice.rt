@@ -1,5 +1,3 @@
-ghost use Rattle.std.specs.Prelude.{◌<◌, length};
-
 // A linear congruential generator: the same numbers in every run.
 #[derive(Clone, Copy)]
 pub struct Dice {
@@ -36,9 +34,9 @@ impl Dice {
         (self.roll() as usize).checked_rem(len).unwrap_or(0)
     }
 
-    pub(crate) fn of<T: Copy>(&mut self, list: &[T]) -> T
-        requires { 0 < length list.now }
-    {
-        list[self.roll() as usize % list.len()]
+    // One of a list, or the default where there is none.
+    pub(crate) fn of<T: Copy + Default>(&mut self, list: &[T]) -> T {
+        let place = self.index(list.len());
+        list.get(place).copied().unwrap_or_default()
     }
 }

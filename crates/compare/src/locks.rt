@@ -19,6 +19,11 @@ use word::LockWord;
 // What an order came to; a making has no outcome.
 type Answered = Result<Option<Outcome>, Refusal>;
 
+fn numbers(outcome: Outcome) -> (u32, u32) {
+    let (number, value) = outcome.numbers();
+    (u32::from(number), u32::from(value))
+}
+
 // Carries an order out on both, and asks both every question.
 fn compare_order<W: LockWord + Bits + Drop, Q: WaitQueue + Drop>(
     check: Check,
@@ -29,11 +34,12 @@ fn compare_order<W: LockWord + Bits + Drop, Q: WaitQueue + Drop>(
     let plain = twin.carry_out(order).map(|done| done.outcome);
     let answer = carry_out(library, order);
     same_refusal(check, answer.err(), plain.err())?;
+    let (answered, done) = (answer.ok().flatten(), plain.ok().flatten());
+    check.same("outcome", answered.map(outcome), done)?;
     check.same(
-        "outcome",
-        0,
-        answer.ok().flatten().map(outcome),
-        plain.ok().flatten(),
+        "number and value of the outcome",
+        answered.map(|outcome| (outcome.number(), outcome.value())),
+        done.map(numbers),
     )?;
     same_rooms(check, library, twin)?;
     same_state(check, &library.lock, &twin.lock)?;

@@ -60,48 +60,45 @@ fn judge(
     }
 }
 
+// Compares what is drawn from each seed, up to the first difference.
+fn each_seed<F: FnMut(u32) -> Result<(), Failure>>(
+    rt: &HostRuntime,
+    kind: &str,
+    seeds: u32,
+    mut compare: F,
+) -> anyhow::Result<()>
+    requires { F.IsAlwaysCallable compare }
+{
+    for seed in 0..seeds {
+        judge(rt, kind, seed, compare(seed))?;
+    }
+    Ok(())
+}
+
 fn compare_locks<W: LockWord + Bits + Drop, Q: WaitQueue + Drop>(
     rt: &HostRuntime,
     kind: &str,
     tally: &mut Tally,
 ) -> anyhow::Result<()> {
     let before = tally.calls;
-    for seed in 0..LISTS {
-        let compared = compare_list::<W, Q>(rt.alloc(), tally, &Plan::drawn(seed));
-        judge(rt, kind, seed, compared)?;
-    }
+    each_seed(rt, kind, LISTS, |seed| {
+        compare_list::<W, Q>(rt.alloc(), tally, &Plan::drawn(seed))
+    })?;
     let calls = tally.calls.saturating_sub(before);
     println!(rt; "{kind}: {calls} calls in {LISTS} lists")?;
     Ok(())
 }
 
-fn compare_texts(rt: &HostRuntime, tally: &mut Tally) -> anyhow::Result<()> {
-    for seed in 0..TEXTS {
-        let compared = compare_text(rt.alloc(), tally, seed);
-        judge(rt, "drill", seed, compared)?;
-    }
-    let lines = tally.lines;
-    println!(rt; "drill: {lines} lines in {TEXTS} texts")?;
-    Ok(())
-}
-
-fn compare_words(rt: &HostRuntime, tally: &mut Tally) -> anyhow::Result<()> {
-    for seed in 0..WORDS {
-        let compared = compare_word(rt.alloc(), tally, seed);
-        judge(rt, "words", seed, compared)?;
-    }
-    let words = tally.words;
-    println!(rt; "words: {words}")?;
-    Ok(())
-}
-
-fn compare_archives(rt: &HostRuntime, tally: &mut Tally) -> anyhow::Result<()> {
-    for seed in 0..ARCHIVES {
-        let compared = compare_archive(rt.alloc(), tally, seed);
-        judge(rt, "archives", seed, compared)?;
-    }
-    let archives = tally.archives;
-    println!(rt; "archives: {archives}")?;
+fn compare_inputs(rt: &HostRuntime, tally: &mut Tally) -> anyhow::Result<()> {
+    let heap = rt.alloc();
+    each_seed(rt, "drill", TEXTS, |seed| compare_text(heap, tally, seed))?;
+    println!(rt; "drill: {} lines in {TEXTS} texts", tally.lines)?;
+    each_seed(rt, "words", WORDS, |seed| compare_word(heap, tally, seed))?;
+    println!(rt; "words: {}", tally.words)?;
+    each_seed(rt, "archives", ARCHIVES, |seed| {
+        compare_archive(heap, tally, seed)
+    })?;
+    println!(rt; "archives: {}", tally.archives)?;
     Ok(())
 }
 
@@ -121,9 +118,7 @@ fn run(rt: &HostRuntime) -> anyhow::Result<()> {
     compare_locks::<Packed, Strips>(rt, "packed and strips", &mut tally)?;
     compare_locks::<Grouped, Chain>(rt, "grouped and chain", &mut tally)?;
     compare_locks::<Grouped, Strips>(rt, "grouped and strips", &mut tally)?;
-    compare_texts(rt, &mut tally)?;
-    compare_words(rt, &mut tally)?;
-    compare_archives(rt, &mut tally)?;
+    compare_inputs(rt, &mut tally)?;
     print_times(rt, &tally)?;
     if !tally.is_full() {
         return Err(anyhow!("an outcome or a refusal never came"));

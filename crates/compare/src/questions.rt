@@ -30,7 +30,7 @@ fn same_phase<W: LockWord + Drop, Q: WaitQueue + Drop>(
     plain: &PlainLock,
     task: u32,
 ) -> Result<(), Failure> {
-    check.same(
+    check.same_at(
         "phase of task",
         task as usize,
         lock.phase(task).map(step),
@@ -62,37 +62,32 @@ fn same_words<W: LockWord + Bits>(
     word: &W,
     plain: &PlainWord,
 ) -> Result<(), Failure> {
-    check.same("W-locked", 0, word.is_locked(), plain.locked)?;
-    check.same("W-waiters", 0, word.writers_wait(), plain.writers_wait)?;
-    check.same("R-waiters", 0, word.readers_wait(), plain.readers_wait)?;
+    check.same("W-locked", word.is_locked(), plain.locked)?;
+    check.same("W-waiters", word.writers_wait(), plain.writers_wait)?;
+    check.same("R-waiters", word.readers_wait(), plain.readers_wait)?;
     for group in 0..10 {
         let place = group as usize;
         let count = plain.counts.get(place).copied().unwrap_or(0);
-        check.same("count of group", place, word.count(group), count)?;
+        check.same_at("count of group", place, word.count(group), count)?;
     }
-    check.same("count past all groups", 0, word.count(u32::MAX), 0)?;
+    check.same("count past all groups", word.count(u32::MAX), 0)?;
     if let Some(bits) = word.bits_of() {
-        check.same("bits of the word", 0, bits, packed_bits(plain))?;
+        check.same("bits of the word", bits, packed_bits(plain))?;
     }
     Ok(())
 }
 
 fn same_queues<Q: WaitQueue>(check: Check, queue: &Q, plain: &PlainLock) -> Result<(), Failure> {
-    check.same("tasks queued", 0, queue.len() as usize, plain.queue.len())?;
+    check.same("tasks queued", queue.len() as usize, plain.queue.len())?;
     for place in 0..queue.len().saturating_add(2) {
-        check.same(
+        check.same_at(
             "entry at",
             place as usize,
             queue.entry_at(place).map(waiter),
             plain.queue.get(place as usize).copied(),
         )?;
     }
-    check.same(
-        "entry past all",
-        0,
-        queue.entry_at(u32::MAX).map(waiter),
-        None,
-    )
+    check.same("entry past all", queue.entry_at(u32::MAX).map(waiter), None)
 }
 
 // Asks both locks every question.

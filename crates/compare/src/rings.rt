@@ -12,18 +12,16 @@ pub(crate) fn same_rooms<W, Q>(
 ) -> Result<(), Failure> {
     check.same(
         "free notice places",
-        0,
         library.notices.free(),
         twin.notices.free(),
     )?;
     check.same(
         "free archive places",
-        0,
         library.archive.free(),
         twin.archive.free(),
     )?;
-    check.same("notices kept", 0, library.notices.len(), twin.notices.len())?;
-    check.same("words kept", 0, library.archive.len(), twin.archive.len())
+    check.same("notices kept", library.notices.len(), twin.notices.len())?;
+    check.same("words kept", library.archive.len(), twin.archive.len())
 }
 
 // Takes some words out of both archives, perhaps one more than there are.
@@ -34,7 +32,7 @@ pub(crate) fn take_words<W, Q>(
     twin: &mut Twin,
 ) -> Result<(), Failure> {
     for _ in 0..dice.index(library.archive.len().saturating_add(2)) {
-        check.same("word taken", 0, library.archive.take(), twin.archive.take())?;
+        check.same("word taken", library.archive.take(), twin.archive.take())?;
     }
     Ok(())
 }
@@ -48,7 +46,6 @@ pub(crate) fn take_notices<W, Q>(
     for _ in 0..dice.index(library.notices.len().saturating_add(2)) {
         check.same(
             "notice taken",
-            0,
             library.notices.take().map(waiter),
             twin.notices.take(),
         )?;
@@ -64,7 +61,7 @@ pub(crate) fn same_lists(
     twin: &Twin,
 ) -> Result<(), Failure> {
     for (place, notice) in notices.iter().enumerate() {
-        check.same(
+        check.same_at(
             "notice at place",
             place,
             waiter(*notice),
@@ -72,7 +69,7 @@ pub(crate) fn same_lists(
         )?;
     }
     for (place, word) in archive.iter().enumerate() {
-        check.same("word at place", place, *word, twin.archive.at_place(place))?;
+        check.same_at("word at place", place, *word, twin.archive.at_place(place))?;
     }
     Ok(())
 }

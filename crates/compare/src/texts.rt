@@ -142,9 +142,9 @@ fn count_printed(tally: &mut Tally, printed: &str) -> Result<(), AllocError> {
 
 fn same_bytes(check: Check, library: &[u8], plain: &[u8]) -> Result<(), Failure> {
     for (place, (library, plain)) in library.iter().zip(plain).enumerate() {
-        check.same("printed byte", place, *library, *plain)?;
+        check.same_at("printed byte", place, *library, *plain)?;
     }
-    check.same("number of printed bytes", 0, library.len(), plain.len())
+    check.same("number of printed bytes", library.len(), plain.len())
 }
 
 // One text, drawn from this seed, through both drills.

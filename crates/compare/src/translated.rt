@@ -95,10 +95,9 @@ pub(crate) fn same_refusal(
     library: Option<types::Refusal>,
     plain: Option<Refusal>,
 ) -> Result<(), Failure> {
-    check.same("refusal", 0, library.map(refusal), plain)?;
+    check.same("refusal", library.map(refusal), plain)?;
     check.same(
         "number of the refusal",
-        0,
         library.map(|refusal| refusal.number()),
         plain.map(|refusal| refusal.number()),
     )

@@ -1,5 +1,6 @@
 use crate::queue::Waiters;
 use arrayvec::ArrayVec;
+use std::fmt;
 
 // Why a call, a line or a record is refused.
 #[derive(Clone, Copy, PartialEq, Eq, Debug)]
@@ -26,6 +27,12 @@ pub enum Refusal {
 impl Refusal {
     pub fn number(self) -> u8 {
         self as u8
+    }
+}
+
+impl fmt::Display for Refusal {
+    fn fmt<W: fmt::Write>(&self, f: &mut fmt::Formatter<W>) -> fmt::Result {
+        self.number().fmt(f)
     }
 }
 

@@ -12,14 +12,14 @@ fn add_answer(out: &mut String, answer: Answer) -> Result<(), AllocError> {
             }
             Ok(())
         }
-        Err(refusal) => writeln!(out, "refused {}", refusal.number()),
+        Err(refusal) => writeln!(out, "refused {refusal}"),
     }
 }
 
 fn add_line(out: &mut String, lock: &mut PlainLock, line: &[u8]) -> Result<(), AllocError> {
     match read_line(line) {
         Ok(order) => add_answer(out, lock.carry_out(order, Rooms::AMPLE)),
-        Err(fault) => writeln!(out, "refused {} at {}", fault.refusal.number(), fault.place),
+        Err(fault) => writeln!(out, "refused {} at {}", fault.refusal, fault.place),
     }
 }
 

@@ -26,8 +26,9 @@ pub struct Row {
 }
 
 // Each with its number in a call word.
-#[derive(Clone, Copy, PartialEq, Eq, Debug)]
+#[derive(Clone, Copy, PartialEq, Eq, Debug, Default)]
 pub enum Verb {
+    #[default]
     ClaimToRead = 1,
     ClaimToWrite = 2,
     Move = 3,
