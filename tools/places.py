@@ -50,7 +50,7 @@ LINES = {
         r'^\s+pub records: Vec<u8>',
     ],
     '7': [
-        r'match dice\.',
+        r'match (self\.)?dice\.',
         r'match way',
         r'\bfn\([^)]*\)',
         r'unreachable\(\)',
