@@ -8,7 +8,7 @@ ghost use Rattle.word.specs.Words.{Sizes, Word, count, tasks_in_group, fresh_wor
 use types::Direction;
 
 pub trait LockWord: Sized {
-    // The number of groups, and the greatest count of any group.
+    // The number of groups, and the greatest count of any group. `group_count` and `count_limit` answer them.
     ghost GROUPS: { ℕ };
 
     ghost LIMIT: { ℕ };
@@ -20,6 +20,22 @@ pub trait LockWord: Sized {
     ghost sizes: { Sizes };
 
     ghost meaning: { Self → Word };
+
+    ghost group_count: { sizes.groups ≡ GROUPS };
+
+    ghost count_limit: { sizes.limit ≡ LIMIT };
+
+    fn group_count() -> u32
+        ensures { result ≡ sizes.groups }
+    {
+        Self::GROUPS
+    }
+
+    fn count_limit() -> u32
+        ensures { result ≡ sizes.limit }
+    {
+        Self::LIMIT
+    }
 
     fn fresh() -> Self
         ensures { meaning result ≡ fresh_word sizes };
@@ -69,10 +85,6 @@ pub trait LockWord: Sized {
 
     fn count(&self, group: u32) -> u32
         ensures { result ≡ count group (meaning self.now) };
-
-    ghost group_count: { sizes.groups ≡ GROUPS };
-
-    ghost count_limit: { sizes.limit ≡ LIMIT };
 
     ghost some_groups: { 1 ≤ sizes.groups };
 
