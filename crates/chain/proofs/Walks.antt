@@ -1,8 +1,8 @@
 -- What writes to the places do to the walk. Assumes nothing.
-use Rattle.std.proofs.Common.{◌≡◌, ℕ, zero, suc, ◌+◌, ◌-◌, ◌<◌, true, false, cond, not, ◌&&◌, eqb, List, [], ◌∷◌, length, set, Option, None, Some, sym, refl, ap, ◌∙◌, inl, inr, arith}
+use Rattle.std.proofs.Common.{◌≡◌, ℕ, zero, suc, ◌+◌, ◌-◌, ◌<◌, true, false, cond, not, ◌&&◌, eqb, ltb, List, [], ◌∷◌, length, set, Option, None, Some, sym, refl, ap, ◌∙◌, subst, inl, inr, arith}
 use Rattle.std.specs.Option.{is_some}
-use Rattle.std.proofs.lemmas.Bool.{or_parts, or_left, or_right, and_parts, not-true, eq-eqb, ne_eqb, eqb-false, cases_eq}
-use Rattle.std.proofs.lemmas.List.{get_or-set_same, get_or-set_other, length-set}
+use Rattle.std.proofs.lemmas.Bool.{or_parts, or_left, or_right, and_parts, not-true, eq-eqb, ne_eqb, eqb-false, cases_eq, cases_Bool, ltb-true, ltb-false}
+use Rattle.std.proofs.lemmas.List.{get_or-set_same, get_or-set_other, length-set, get_or_past}
 use Rattle.std.proofs.lemmas.Bool.Decides.{nat_tests}
 use Rattle.types.specs.declared.Direction.{Direction}
 use Rattle.types.specs.declared.Entry.{Entry}
@@ -185,3 +185,36 @@ leads_set ps q new p d q-in new_in other there =
       goes_on = get_or-set_same ps₁ new y _ new_in₁;
       others = λ t no-q no-new. get_or-set_other ps₁ new t y _ (eqb-false t new no-new) ∙ get_or-set_other ps q t x _ (eqb-false t q no-q);
     }
+
+-- A task of the chain that is not the last: its place is one of those, and n places begin with the task behind it.
+pub record Follows (ps : List (Option Place)) (t n : ℕ) : Type 0 where
+  pub inside : t < length ps
+  pub more : is_some (next_of (place_at ps t)) ≡ true
+  pub others : (u : ℕ) → Some u ≡ next_of (place_at ps t) → ends_after ps (Some u) n ≡ true
+
+-- a task that has a place is one of the places
+inside_of : (ps : List (Option Place)) (t : ℕ) (p : Place) → place_at ps t ≡ Some p → t < length ps
+inside_of ps t p there =
+    elim (cases_Bool (ltb t (length ps))) [
+      | inl less ↦ ltb-true t (length ps) less
+      | inr past ↦ absurd (let none = get_or_past ps t None (ltb-false t (length ps) past) in cc (none, there))
+    ]
+
+follows : (ps : List (Option Place)) (t n : ℕ) → ends_after ps (Some t) (suc (suc n)) ≡ true → Follows ps t (suc n)
+follows ps t n ends =
+    let b = begins ps (Some t) (suc n) ends in
+    let b' = begins ps b.place.next n b.others in
+    let there : place_at ps t ≡ Some b.place = let same = b.leads in cc (same, b.there) in
+    let next-is : next_of (place_at ps t) ≡ b.place.next = ap next_of there in
+    record {
+      inside = inside_of ps t b.place there;
+      more = ap is_some (next-is ∙ b'.leads);
+      others = λ u is. ap (λ link. ends_after ps link (suc n)) (is ∙ next-is) ∙ b.others;
+    }
+
+-- the walk to a place before the last goes on
+pub next_behind : (ps : List (Option Place)) (t len place i : ℕ) → place < len → i < place → ends_after ps (Some t) (len - i) ≡ true → Follows ps t (len - (i + 1))
+next_behind ps t len place i inside more ends =
+    let two : len - i ≡ suc (suc (len - (i + 2))) = omega arith in
+    let one : len - (i + 1) ≡ suc (len - (i + 2)) = omega arith in
+    subst (Follows ps t) (sym one) (follows ps t (len - (i + 2)) (sym (ap (ends_after ps (Some t)) two) ∙ ends))

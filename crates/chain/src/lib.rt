@@ -86,10 +86,10 @@ impl WaitQueue for Chain {
         if place + 1 == self.len() {
             return self.links.entry(self.links.tail);
         }
-        let mut link = self.links.head;
+        let mut task = self.links.head?;
         for _ in 0..place {
-            link = self.links.next(link);
+            task = self.links.behind(task);
         }
-        self.links.entry(link)
+        self.links.entry(Some(task))
     }
 }

@@ -1,7 +1,7 @@
 // The places of a chain: one for each task that waits, with a link to the next. The last task, the last reader and the
 // number of readers are remembered, so that none is searched for.
-ghost use Rattle.std.specs.Prelude.{◌≡◌, ◌<◌, ◌≤◌};
-ghost use Rattle.chain.specs.Walks.{Linkable, Linked, is_free, goes_behind, linked_place, linked_entry, next_of, readers_in, remembered, unlinked, except};
+ghost use Rattle.std.specs.Prelude.{◌≡◌, ◌<◌, ◌≤◌, true, Some, is_some};
+ghost use Rattle.chain.specs.Walks.{Linkable, Linked, is_free, goes_behind, place_at, linked_place, linked_entry, next_of, readers_in, remembered, unlinked, except};
 
 use types::{Direction, Entry};
 
@@ -48,6 +48,24 @@ impl Links {
         ensures { result ≡ next_of (linked_place self.now.places link) }
     {
         self.place(link)?.next
+    }
+
+    // The task behind one that waits and is not the last.
+    pub(crate) fn behind(&self, task: u8) -> u8
+        requires inside { task < 64 }
+        requires more { is_some (next_of (place_at self.now.places task)) ≡ true }
+        ensures { Some result ≡ next_of (place_at self.now.places task) }
+    {
+        let place = self.places[task as usize];
+        match place {
+            Some(
+                Place {
+                    next: Some(next),
+                    ..
+                },
+            ) => next,
+            _ => unreachable!(),
+        }
     }
 
     // The task is one of the 64 and has no place.

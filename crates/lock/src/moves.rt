@@ -23,6 +23,7 @@ pub(crate) fn group<W: LockWord>(task: u8) -> u32
 impl<W: LockWord, Q: WaitQueue> State<W, Q> {
     // The task attempts to enter, and holds if the word lets it; Err where it was in vain. Either end tells the attempts made, so
     // that the error is a number and no enum.
+    #[inline]
     fn try_enter(&mut self, task: Task, direction: Direction) -> Result<u16, u16>
         ensures answer { result ≡ attempt_answer W.LockWord.sizes task.number direction (lock_of W.LockWord.meaning Q.WaitQueue.entries self.old) }
         ensures lock { let l = lock_of W.LockWord.meaning Q.WaitQueue.entries self.old in lock_of W.LockWord.meaning Q.WaitQueue.entries self.new ≡ (if can_enter W.LockWord.sizes task.number direction l.word then (granted W.LockWord.sizes task.number direction l).lock else l) }
@@ -41,6 +42,7 @@ impl<W: LockWord, Q: WaitQueue> State<W, Q> {
     }
 
     // A claiming task attempts to enter.
+    #[inline]
     pub(crate) fn attempt(&mut self, task: Task, direction: Direction) -> Outcome
         ensures { let l = lock_of W.LockWord.meaning Q.WaitQueue.entries self.old in plain result (lock_of W.LockWord.meaning Q.WaitQueue.entries self.new) ≡ (if can_enter W.LockWord.sizes task.number direction l.word then granted W.LockWord.sizes task.number direction l else in_vain task.number direction l) }
     {

@@ -1,5 +1,5 @@
 // The fields of a lock.
-ghost use Rattle.std.specs.Prelude.{◌≡◌, ◌<◌, ◌≤◌};
+ghost use Rattle.std.specs.Prelude.{◌≡◌, ◌<◌, ◌≤◌, length};
 ghost use Rattle.lock.specs.Keys.{Keyed};
 
 use rules::Row;
@@ -14,6 +14,7 @@ pub(crate) struct State<W, Q> {
     pub(crate) queue_locked: bool,
     pub(crate) word: W,
     pub(crate) queue: Q,
+    ghost full: { length rows ≡ 64 },
     ghost few: { tasks ≤ 64 },
     ghost keyed: { Keyed rows queue_locked },
 }
