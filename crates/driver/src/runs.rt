@@ -6,15 +6,15 @@ ghost use Rattle.driver.specs.declared.trouble.Trouble.{Trouble};
 ghost use Rattle.driver.specs.Lines.{blank_setup, called_of, setup_called, built_of, setup_made, ran, line_run};
 ghost use Rattle.driver.specs.Meaning.{setup_of, packed_setup};
 
+use crate::parts::{run_call, run_line};
 use crate::setup::Setup;
 use crate::trouble::Trouble;
 use chain::Chain;
-use lines::{Command, command};
 use lock::Lock;
 use packed::Packed;
 use queue::WaitQueue;
 use ring::Ring;
-use types::{Direction, Entry, Outcome, Refusal, Verb};
+use types::{Entry, Outcome, Refusal, Verb};
 use word::LockWord;
 
 impl<'n, 'a, W: LockWord + Drop, Q: WaitQueue + Drop> Setup<'n, 'a, W, Q> {
@@ -50,17 +50,13 @@ impl<'n, 'a, W: LockWord + Drop, Q: WaitQueue + Drop> Setup<'n, 'a, W, Q> {
         ensures after { setup_of W.LockWord.meaning Q.WaitQueue.entries self.new ≡ setup_called W.LockWord.sizes verb task (setup_of W.LockWord.meaning Q.WaitQueue.entries self.old) }
         ensures same { (e : Refusal) → result ≡ Err e → self.new ≡ self.old }
     {
-        let Setup {
-            lock,
-            notices,
-            archive,
-        } = self;
-        match verb {
-            Verb::ClaimRead => lock.claim(task, Direction::Read, archive),
-            Verb::ClaimWrite => lock.claim(task, Direction::Write, archive),
-            Verb::Move => lock.advance(task, notices, archive),
-            Verb::Leave => lock.leave(task, archive),
-        }
+        run_call(
+            &mut self.lock,
+            &mut self.notices,
+            &mut self.archive,
+            verb,
+            task,
+        )
     }
 }
 
@@ -72,12 +68,6 @@ impl Setup<'_, '_, Packed, Chain> {
         ensures ran { ran result (packed_setup self.new) ≡ line_run line.now (packed_setup self.old) }
         ensures same { (e : Trouble) → result ≡ Err e → self.new ≡ self.old }
     {
-        match command(line)? {
-            Command::Make { tasks, spin } => self.make(u32::from(tasks), u32::from(spin))?,
-            Command::Call { verb, task } => {
-                self.call(verb, u32::from(task))?;
-            }
-        }
-        Ok(())
+        run_line(&mut self.lock, &mut self.notices, &mut self.archive, line)
     }
 }

@@ -1,4 +1,5 @@
-// Refusals, blank locks and a hand-over, run on every pair of a lock word and a wait queue; more refusals on one pair; the size of a lock.
+// Refusals, blank locks and a hand-over, run on every pair of a lock word and a wait queue; more refusals and a pair of rings that two locks
+// share, on one pair; the size of a lock.
 #![tactic(auto)]
 
 // A trial on every pair of a lock word and a wait queue.
@@ -26,6 +27,8 @@ mod refused_calls;
 mod refused_makings;
 #[cfg(test)]
 mod refused_passes;
+#[cfg(test)]
+mod shared_rings;
 #[cfg(test)]
 mod sizes;
 #[cfg(test)]
