@@ -67,7 +67,7 @@ fn same_words<W: LockWord + Bits>(
     check.same("R-waiters", word.readers_wait(), plain.readers_wait)?;
     for group in 0..10 {
         let place = group as usize;
-        let count = plain.counts.get(place).copied().unwrap_or(0);
+        let count = plain.counts.get(place).unwrap_or(0);
         check.same_at("count of group", place, word.count(group), count)?;
     }
     check.same("count past all groups", word.count(u32::MAX), 0)?;
@@ -84,7 +84,7 @@ fn same_queues<Q: WaitQueue>(check: Check, queue: &Q, plain: &PlainLock) -> Resu
             "entry at",
             place as usize,
             queue.entry_at(place).map(waiter),
-            plain.queue.get(place as usize).copied(),
+            plain.queue.get(place as usize),
         )?;
     }
     check.same("entry past all", queue.entry_at(u32::MAX).map(waiter), None)

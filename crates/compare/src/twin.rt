@@ -13,8 +13,8 @@ impl Twin {
     pub(crate) fn blank(groups: u32, limit: u32, plan: &Plan) -> Twin {
         Twin {
             lock: PlainLock::blank(groups as usize, limit),
-            notices: PlainRing::over(plan.notice_places),
-            archive: PlainRing::over(plan.archive_places),
+            notices: PlainRing::over(plan.notice_places, Waiter::default()),
+            archive: PlainRing::over(plan.archive_places, 0),
         }
     }
 

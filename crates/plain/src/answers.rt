@@ -1,5 +1,5 @@
+use crate::list::List;
 use crate::queue::Waiters;
-use arrayvec::ArrayVec;
 use std::fmt;
 
 // Why a call, a line or a record is refused.
@@ -70,11 +70,11 @@ impl Outcome {
 }
 
 // What an accepted call did and wrote. A making has no outcome.
-#[derive(Drop)]
+#[derive(Clone, Copy)]
 pub struct Done {
     pub outcome: Option<Outcome>,
     pub taken: Waiters,
-    pub words: ArrayVec<u32, 66>,
+    pub words: List<u32, 66>,
 }
 
 pub type Answer = Result<Done, Refusal>;

@@ -5,6 +5,7 @@
 mod answers;
 mod drilling;
 mod letters;
+mod list;
 mod lock;
 mod moves;
 mod queue;
@@ -16,10 +17,11 @@ mod words;
 
 pub use answers::{Answer, Done, Outcome, Refusal};
 pub use drilling::drill;
+pub use list::List;
 pub use lock::PlainLock;
 pub use queue::{Waiter, Waiters};
 pub use retracing::{Retraced, retrace};
 pub use ring::PlainRing;
 pub use rows::{Call, Direction, Order, Rooms, Row, Step, Verb};
 pub use word::PlainWord;
-pub use words::Meaning;
+pub use words::{Meaning, read_word};

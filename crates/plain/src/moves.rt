@@ -130,13 +130,13 @@ impl PlainLock {
     fn pass(&mut self, task: u8, taken: &Waiters) -> Outcome {
         self.word.locked = false;
         for waiter in taken {
-            let _ = self.queue.pop_at(0);
+            let _ = self.queue.take_first();
             self.hand_to(*waiter);
         }
         self.word.writers_wait = waits(&self.queue, Direction::Write);
         self.word.readers_wait = waits(&self.queue, Direction::Read);
         self.go(task, Step::Out);
-        Outcome::Passed(taken.len() as u16)
+        Outcome::Passed(u16::try_from(taken.len()).unwrap_or(u16::MAX))
     }
 
     fn hand_to(&mut self, waiter: Waiter) {

@@ -1,5 +1,5 @@
+use crate::list::List;
 use crate::rows::Direction;
-use arrayvec::ArrayVec;
 
 #[derive(Clone, Copy, PartialEq, Eq, Debug)]
 pub struct Waiter {
@@ -17,7 +17,11 @@ impl Default for Waiter {
     }
 }
 
-pub type Waiters = ArrayVec<Waiter, 64>;
+pub type Waiters = List<Waiter, 64>;
+
+pub(crate) fn nobody() -> Waiters {
+    List::empty(Waiter::default())
+}
 
 // A writer goes to the end, a reader behind the last reader, or to the end when there is none.
 pub(crate) fn join(queue: &mut Waiters, newcomer: Waiter) {
@@ -29,7 +33,7 @@ pub(crate) fn join(queue: &mut Waiters, newcomer: Waiter) {
         _ => queue.len(),
     };
     // No task waits twice, so one of the 64 places is free.
-    let _ = queue.try_insert(place, newcomer);
+    queue.insert(place, newcomer);
 }
 
 // Those whom a pass takes: a writer at the front alone, or all readers at the front.

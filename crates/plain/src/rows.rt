@@ -25,6 +25,13 @@ pub struct Row {
     pub attempts: u16,
 }
 
+impl Row {
+    pub const OUT: Row = Row {
+        step: Step::Out,
+        attempts: 0,
+    };
+}
+
 // Each with its number in a call word.
 #[derive(Clone, Copy, PartialEq, Eq, Debug, Default)]
 pub enum Verb {
@@ -33,6 +40,12 @@ pub enum Verb {
     ClaimToWrite = 2,
     Move = 3,
     Leave = 4,
+}
+
+impl Verb {
+    pub fn number(self) -> u32 {
+        self as u32
+    }
 }
 
 #[derive(Clone, Copy)]

@@ -1,26 +1,23 @@
+use crate::list::List;
 use crate::rows::Direction;
-use arrayvec::ArrayVec;
-use std::iter::repeat_n;
 
 // Three marks and a list of reader counts, one for each group.
-#[derive(Drop)]
+#[derive(Clone, Copy)]
 pub struct PlainWord {
     pub locked: bool,
     pub writers_wait: bool,
     pub readers_wait: bool,
-    pub counts: ArrayVec<u32, 64>,
+    pub counts: List<u32, 64>,
     limit: u32,
 }
 
 impl PlainWord {
     pub(crate) fn fresh(groups: usize, limit: u32) -> PlainWord {
-        let mut counts = ArrayVec::new();
-        let _ = counts.extend(repeat_n(0, groups));
         PlainWord {
             locked: false,
             writers_wait: false,
             readers_wait: false,
-            counts,
+            counts: List::filled(0, groups),
             limit,
         }
     }
@@ -42,7 +39,7 @@ impl PlainWord {
         }
     }
 
-    fn enter_to_write(&mut self) -> bool {
+    pub(crate) fn enter_to_write(&mut self) -> bool {
         let marked = self.locked || self.writers_wait || self.readers_wait;
         let enters = !marked && self.nobody_reads();
         if enters {
