@@ -1,6 +1,7 @@
 -- The flag of the queue lock after a row has changed. Assumes nothing.
 use Rattle.std.proofs.Common.{◌≡◌, ℕ, zero, suc, ◌+◌, ◌<◌, Bool, true, false, cond, not, ◌&&◌, List, [], ◌∷◌, length, get_or, set, refl, ap, arith}
 use Rattle.std.proofs.lemmas.Bool.Decides.{nat_tests}
+use Rattle.std.proofs.lemmas.List.{length-set}
 use Rattle.rules.specs.Locks.{out_row, has_queue_lock, is_queue_locked}
 use Rattle.rules.specs.declared.Row.{Row}
 use Rattle.lock.specs.Keys.{holders, Keyed}
@@ -12,6 +13,10 @@ holders_set : (rows : List Row) (t : ℕ) (row : Row) → t < length rows → ho
 holders_set [] t row h = absurd (omega arith)
 holders_set (r ∷ rs) zero row h = omega arith
 holders_set (r ∷ rs) (suc t) row h = let ih = holders_set rs t row (omega arith) in omega arith
+
+-- a write leaves as many rows
+pub rows_set : (rows : List Row) (t : ℕ) (row : Row) → length (set rows t row) ≡ length rows
+rows_set rows t row = length-set rows t row
 
 -- while nobody has the queue lock, no row tells of it
 pub none_locked : (rows : List Row) → holders rows ≡ 0 → is_queue_locked rows ≡ false

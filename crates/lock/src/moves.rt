@@ -78,7 +78,7 @@ impl<W: LockWord, Q: WaitQueue> State<W, Q> {
     }
 
     // A task gets the queue lock and goes on in the next phase, unless another has it.
-    #[tactic(auto, using(crate::proofs::Keys::none_locked, crate::proofs::Keys::one_locked, crate::proofs::Keys::keyed_taken))]
+    #[tactic(auto, using(crate::proofs::Keys::none_locked, crate::proofs::Keys::one_locked, crate::proofs::Keys::keyed_taken, crate::proofs::Keys::rows_set))]
     pub(crate) fn lock_queue(&mut self, task: Task, next: Phase) -> Outcome
         requires { has_queue_lock next ≡ true }
         ensures { plain result (lock_of W.LockWord.meaning Q.WaitQueue.entries self.new) ≡ queue_lock_tried task.number next (lock_of W.LockWord.meaning Q.WaitQueue.entries self.old) }

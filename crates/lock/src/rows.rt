@@ -60,7 +60,7 @@ impl<W: LockWord, Q: WaitQueue> State<W, Q> {
     }
 
     // The task has another row, of a phase without the queue lock; it lets the queue lock go if it had it.
-    #[tactic(auto, using(crate::proofs::Keys::keyed_without))]
+    #[tactic(auto, using(crate::proofs::Keys::keyed_without, crate::proofs::Keys::rows_set))]
     pub(crate) fn set_row(&mut self, task: Task, row: Row)
         requires { has_queue_lock row.phase ≡ false }
         ensures { lock_of W.LockWord.meaning Q.WaitQueue.entries self.new ≡ with_row task.number row (lock_of W.LockWord.meaning Q.WaitQueue.entries self.old) }
