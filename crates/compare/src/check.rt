@@ -23,16 +23,15 @@ impl Check {
         Check { heap, step }
     }
 
-    fn compare<T: PartialEq + Debug + Drop>(
+    // What differs is put into words apart, so that a comparison that agrees costs no more than its test.
+    #[cold]
+    fn differ<T: Debug + Drop>(
         self,
         what: &str,
         at: Option<usize>,
         library: T,
         plain: T,
     ) -> Result<(), Failure> {
-        if library == plain {
-            return Ok(());
-        }
         let step = self.step;
         let difference = match at {
             Some(at) => format!(in self.heap;
@@ -45,7 +44,22 @@ impl Check {
         Err(Failure::Differ(difference))
     }
 
+    #[inline]
+    fn compare<T: PartialEq + Debug + Drop>(
+        self,
+        what: &str,
+        at: Option<usize>,
+        library: T,
+        plain: T,
+    ) -> Result<(), Failure> {
+        if library == plain {
+            return Ok(());
+        }
+        self.differ(what, at, library, plain)
+    }
+
     // An error where the two answer otherwise to what was asked.
+    #[inline]
     pub(crate) fn same<T: PartialEq + Debug + Drop>(
         self,
         what: &str,
@@ -56,6 +70,7 @@ impl Check {
     }
 
     // The same where what was asked has a place or a number.
+    #[inline]
     pub(crate) fn same_at<T: PartialEq + Debug + Drop>(
         self,
         what: &str,
