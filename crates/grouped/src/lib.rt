@@ -4,7 +4,7 @@
 ghost use Rattle.std.specs.Prelude.{◌≡◌, ℕ, ◌≤◌, length, slice_index};
 ghost use Rattle.word.specs.Words.{all_zero};
 ghost use Rattle.grouped.specs.Groups.{grouped_sizes, grouped_word};
-ghost use Rattle.std.proofs.Common.{arith, rules};
+ghost use Rattle.std.proofs.Common.{arith, refl, rules};
 ghost use Rattle.word.proofs.Groups.{tasks_below_le};
 
 use types::Direction;
@@ -56,9 +56,9 @@ impl LockWord for Grouped {
 
     ghost meaning = { λ w. grouped_word w.marks.locked w.marks.writers_wait w.marks.readers_wait w.counts };
 
-    ghost group_count = { Prim.search rules };
+    ghost group_count = { refl };
 
-    ghost count_limit = { Prim.search rules };
+    ghost count_limit = { refl };
 
     ghost some_groups = { Prim.search rules };
 

@@ -3,7 +3,7 @@
 
 ghost use Rattle.std.specs.Prelude.{◌≡◌, Bool, cond, ◌/◌, ◌%◌, ◌^◌, ◌<◌, ◌==◌};
 ghost use Rattle.packed.specs.Unpacked.{packed_sizes, unpacked};
-ghost use Rattle.std.proofs.Common.{arith, rules};
+ghost use Rattle.std.proofs.Common.{arith, refl, rules};
 ghost use Rattle.word.proofs.Groups.{tasks_below_le};
 
 use types::Direction;
@@ -65,9 +65,9 @@ impl LockWord for Packed {
 
     ghost meaning = { λ w. unpacked w.bits };
 
-    ghost group_count = { Prim.search rules };
+    ghost group_count = { refl };
 
-    ghost count_limit = { Prim.search rules };
+    ghost count_limit = { refl };
 
     ghost some_groups = { Prim.search rules };
 
