@@ -169,7 +169,7 @@ fn ended(line: &[u8], place: usize, command: Command) -> Result<Command, Fault>
 
 // The command of a line, or the fault of its first part that does not fit.
 #[tactic(auto, using(crate::proofs::Steps::verb_fault, crate::proofs::Steps::call_ends, crate::proofs::Steps::make_ends, crate::proofs::Accepted::exact))]
-#[inline]
+#[inline(always)]
 pub fn command(line: &[u8]) -> Result<Command, Fault>
     ensures reads { result ≡ answer line.now }
     ensures exact { Exact line.now result }
