@@ -1,220 +1,120 @@
 -- What writes to the places do to the walk. Assumes nothing.
-use Rattle.std.proofs.Common.{◌≡◌, ℕ, zero, suc, ◌+◌, ◌-◌, ◌<◌, true, false, cond, not, ◌&&◌, eqb, ltb, List, [], ◌∷◌, length, set, Option, None, Some, sym, refl, ap, ◌∙◌, subst, inl, inr, arith}
-use Rattle.std.specs.Option.{is_some}
-use Rattle.std.proofs.lemmas.Bool.{or_parts, or_left, or_right, and_parts, not-true, eq-eqb, ne_eqb, eqb-false, cases_eq, cases_Bool, ltb-true, ltb-false}
-use Rattle.std.proofs.lemmas.List.{get_or-set_same, get_or-set_other, length-set, get_or_past}
+use Rattle.std.proofs.Common.{◌≡◌, ℕ, zero, suc, ◌-◌, ◌<◌, true, false, cond, not, eqb, ltb, List, ◌∷◌, length, set, sym, refl, ap, ◌∙◌, inl, inr, arith}
+use Rattle.std.proofs.lemmas.Bool.{or_parts, or_left, or_right, cond_both, and_parts, not-true, eq-eqb, ne_eqb, eqb-true, eqb-false, ltb-true, cases_eq}
+use Rattle.std.proofs.lemmas.List.{get_or-set_same, get_or-set_other, length-set}
 use Rattle.std.proofs.lemmas.Bool.Decides.{nat_tests}
 use Rattle.types.specs.declared.Direction.{Direction}
-use Rattle.types.specs.declared.Entry.{Entry}
-use Rattle.queue.specs.Queues.{has_task, no_task_twice, entry_at}
+use Rattle.queue.specs.Queues.{has_task, tasks_in_range, no_task_twice, entry_at}
 use Rattle.chain.specs.declared.places.Place.{Place}
-use Rattle.chain.specs.Walks.{entry_of, place_at, linked_place, next_of, linked_entry, entry_in, met, walk, ends_after, last_task, behind_task}
+use Rattle.chain.specs.Walks.{entry_of, place_at, walk, last_task, behind_task}
 use Rattle.chain.proofs.Entries.{apart}
 
--- A chain of one place and then n others: its first task, the place of that task, and the n others behind it.
-pub record Begins (ps : List (Option Place)) (link : Option ℕ) (n : ℕ) : Type 0 where
-  pub task : ℕ
-  pub place : Place
-  pub leads : link ≡ Some task
-  pub there : place_at ps task ≡ Some place
-  pub others : ends_after ps place.next n ≡ true
+pub walk_length : (places : List Place) (n task : ℕ) → length (walk places n task) ≡ n
+walk_length places zero task = refl
+walk_length places (suc n) task = ap suc (walk_length places n (place_at places task).next)
 
-pub begins : (ps : List (Option Place)) (link : Option ℕ) (n : ℕ) → ends_after ps link (suc n) ≡ true → Begins ps link n
-begins ps None n ends = absurd (cc)
-begins ps (Some t) n ends =
-    (elim (place_at ps t) as (λ r. place_at ps t ≡ r → (is_some r && ends_after ps (next_of r) n) ≡ true → Begins ps (Some t) n) [
-      | None ↦ λ there ends. absurd (cc)
-      | Some p ↦ λ there ends. record { task = t; place = p; leads = refl; there = there; others = ends }
-    ]) refl ends
-
-pub walk_begins : (ps : List (Option Place)) (link : Option ℕ) (n t : ℕ) (p : Place) → link ≡ Some t → place_at ps t ≡ Some p → walk ps link (suc n) ≡ entry_of t p.direction ∷ walk ps p.next n
-walk_begins ps link n t p leads there = rw (leads, there) refl
-
-pub ends_begins : (ps : List (Option Place)) (link : Option ℕ) (n t : ℕ) (p : Place) → link ≡ Some t → place_at ps t ≡ Some p → ends_after ps p.next n ≡ true → ends_after ps link (suc n) ≡ true
-ends_begins ps link n t p leads there ends = rw (leads, there) ends
-
-walk_none : (ps : List (Option Place)) (link : Option ℕ) → walk ps link 0 ≡ []
-walk_none ps None = refl
-walk_none ps (Some t) = refl
-
-pub walk_length : (ps : List (Option Place)) (link : Option ℕ) (n : ℕ) → ends_after ps link n ≡ true → length (walk ps link n) ≡ n
-walk_length ps link zero ends = ap length (walk_none ps link)
-walk_length ps link (suc n) ends =
-    let b = begins ps link n ends in
-    ap length (walk_begins ps link n b.task b.place b.leads b.there) ∙ ap suc (walk_length ps b.place.next n b.others)
-
--- The walk in other places that are the same for each task of the chain.
-pub record Same (ps ps' : List (Option Place)) (link : Option ℕ) (n : ℕ) : Type 0 where
-  pub walk-is : walk ps' link n ≡ walk ps link n
-  pub ends : ends_after ps' link n ≡ true
-
-pub walk_same : (ps ps' : List (Option Place)) (link : Option ℕ) (n : ℕ) → ends_after ps link n ≡ true → ((t : ℕ) → has_task t (walk ps link n) ≡ true → place_at ps' t ≡ place_at ps t) → Same ps ps' link n
-walk_same ps ps' None zero ends agree = record { walk-is = refl; ends = refl }
-walk_same ps ps' (Some t) zero ends agree = absurd (cc)
-walk_same ps ps' link (suc n) ends agree =
-    let b = begins ps link n ends in
-    let es = walk ps b.place.next n in
-    let whole = walk_begins ps link n b.task b.place b.leads b.there in
-    let here = agree b.task (ap (has_task b.task) whole ∙ or_left (eqb b.task b.task) (has_task b.task es) (eq-eqb b.task b.task refl)) ∙ b.there in
-    let ih = walk_same ps ps' b.place.next n b.others (λ t there. agree t (ap (has_task t) whole ∙ or_right (eqb b.task t) (has_task t es) there)) in
-    record {
-      walk-is = walk_begins ps' link n b.task b.place b.leads here ∙ ap (λ l. entry_of b.task b.place.direction ∷ l) ih.walk-is ∙ sym whole;
-      ends = ends_begins ps' link n b.task b.place b.leads here ih.ends;
-    }
+-- places that agree on the tasks of a walk have the same walk
+pub walk_same : (ps ps' : List Place) (n p : ℕ) → ((t : ℕ) → has_task t (walk ps n p) ≡ true → place_at ps' t ≡ place_at ps t) → walk ps' n p ≡ walk ps n p
+walk_same ps ps' zero p agree = refl
+walk_same ps ps' (suc n) p agree =
+    let es = walk ps n (place_at ps p).next in
+    let here = agree p (or_left (eqb p p) (has_task p es) (eq-eqb p p refl)) in
+    let ih = walk_same ps ps' n (place_at ps p).next (λ t there. agree t (or_right (eqb p t) (has_task t es) there)) in
+    rw here (ap (λ l. entry_of p (place_at ps p).direction ∷ l) ih)
 
 -- The places after a new one is put behind that of the task q: q leads to the new place, and it to where q led.
-pub record Leads (ps ps' : List (Option Place)) (q new : ℕ) (p : Place) (d : Direction) : Type 0 where
-  pub there : place_at ps q ≡ Some p
-  pub leads : place_at ps' q ≡ Some (record { next = Some new; direction = p.direction })
-  pub goes_on : place_at ps' new ≡ Some (record { next = p.next; direction = d })
+pub record Leads (ps ps' : List Place) (q new : ℕ) (d : Direction) : Type 0 where
+  pub leads : (place_at ps' q).next ≡ new
+  pub keeps : (place_at ps' q).direction ≡ (place_at ps q).direction
+  pub goes_on : (place_at ps' new).next ≡ (place_at ps q).next
+  pub faces : (place_at ps' new).direction ≡ d
   pub others : (t : ℕ) → eqb t q ≡ false → eqb t new ≡ false → place_at ps' t ≡ place_at ps t
 
--- The new entry stands behind that of the task q, and the chain ends one place later.
-pub record Put (ps ps' : List (Option Place)) (q new : ℕ) (d : Direction) (link : Option ℕ) (n : ℕ) : Type 0 where
-  pub walk-is : walk ps' link (suc n) ≡ behind_task q (entry_of new d) (walk ps link n)
-  pub ends : ends_after ps' link (suc n) ≡ true
-
-module _ (ps ps' : List (Option Place)) (q new : ℕ) (p : Place) (d : Direction) (linked : Leads ps ps' q new p d) where
-  rest_same : (n : ℕ) (link : Option ℕ) → ends_after ps link n ≡ true → has_task q (walk ps link n) ≡ false → has_task new (walk ps link n) ≡ false → Same ps ps' link n
-  rest_same n link ends no-q no-new = walk_same ps ps' link n ends (λ t there. linked.others t (flip t q there no-q) (flip t new there no-new))
+module _ (ps ps' : List Place) (q new : ℕ) (d : Direction) (linked : Leads ps ps' q new d) where
+  rest_same : (n p : ℕ) → has_task q (walk ps n p) ≡ false → has_task new (walk ps n p) ≡ false → walk ps' n p ≡ walk ps n p
+  rest_same n p no-q no-new = walk_same ps ps' n p (λ t there. linked.others t (flip t q there no-q) (flip t new there no-new))
     where
-      flip : (t u : ℕ) → has_task t (walk ps link n) ≡ true → has_task u (walk ps link n) ≡ false → eqb t u ≡ false
-      flip t u there absent = let e = apart u t (walk ps link n) absent there in grind (arith, nat_tests)
+      flip : (t u : ℕ) → has_task t (walk ps n p) ≡ true → has_task u (walk ps n p) ≡ false → eqb t u ≡ false
+      flip t u there absent = let e = apart u t (walk ps n p) absent there in grind (arith, nat_tests)
 
-  pub walk_behind : (n : ℕ) (link : Option ℕ) → ends_after ps link n ≡ true → no_task_twice (walk ps link n) ≡ true → has_task q (walk ps link n) ≡ true → has_task new (walk ps link n) ≡ false → Put ps ps' q new d link n
-  walk_behind zero link ends once there absent = let none = ap (has_task q) (walk_none ps link) in absurd (cc)
-  walk_behind (suc n) link ends once there absent =
-      let b = begins ps link n ends in
-      let t = b.task in
-      let es = walk ps b.place.next n in
-      let front : Entry = entry_of t b.place.direction in
-      let whole = walk_begins ps link n t b.place b.leads b.there in
-      let parts = and_parts (not (has_task t es)) (no_task_twice es) (sym (ap no_task_twice whole) ∙ once) in
-      let no-t = not-true (has_task t es) parts.0 in
-      let no-new = or_parts (eqb t new) (has_task new es) (sym (ap (has_task new) whole) ∙ absent) in
-      let found = sym (ap (has_task q) whole) ∙ there in
-      elim (cases_eq t q) [
-        | inl same ↦
-            let place-is : b.place ≡ p = let e : place_at ps t ≡ Some p = rw same linked.there in cc (b.there) in
-            let no-q : has_task q es ≡ false = rw (← same) no-t in
-            let rest = rest_same n b.place.next b.others no-q no-new.1 in
-            let led : place_at ps' t ≡ Some (record { next = Some new; direction = b.place.direction }) = rw (same, place-is) linked.leads in
-            let goes_on : place_at ps' new ≡ Some (record { next = b.place.next; direction = d }) = rw place-is linked.goes_on in
-            let second = walk_begins ps' (Some new) n new (record { next = b.place.next; direction = d }) refl goes_on in
-            let first = walk_begins ps' link (suc n) t (record { next = Some new; direction = b.place.direction }) b.leads led in
-            let behind = ap (behind_task q (entry_of new d)) whole ∙ ap (λ c. cond c (front ∷ entry_of new d ∷ es) (front ∷ behind_task q (entry_of new d) es)) (eq-eqb t q same) in
-            record {
-              walk-is = first ∙ ap (λ l. front ∷ l) (second ∙ ap (λ l. entry_of new d ∷ l) rest.walk-is) ∙ sym behind;
-              ends = ends_begins ps' link (suc n) t _ b.leads led (ends_begins ps' (Some new) n new _ refl goes_on rest.ends);
-            }
-        | inr other ↦
-            let apart-q = ne_eqb t q other in
-            let later : has_task q es ≡ true = grind (arith, nat_tests) in
-            let ih = walk_behind n b.place.next b.others parts.1 later no-new.1 in
-            let here = linked.others t apart-q no-new.0 ∙ b.there in
-            let behind = ap (behind_task q (entry_of new d)) whole ∙ ap (λ c. cond c (front ∷ entry_of new d ∷ es) (front ∷ behind_task q (entry_of new d) es)) apart-q in
-            record {
-              walk-is = walk_begins ps' link (suc n) t b.place b.leads here ∙ ap (λ l. front ∷ l) ih.walk-is ∙ sym behind;
-              ends = ends_begins ps' link (suc n) t b.place b.leads here ih.ends;
-            }
-      ]
+  pub walk_behind : (n p : ℕ) → no_task_twice (walk ps n p) ≡ true → has_task q (walk ps n p) ≡ true → has_task new (walk ps n p) ≡ false → walk ps' (suc n) p ≡ behind_task q (entry_of new d) (walk ps n p)
+  walk_behind zero p once there absent = grind (arith, nat_tests)
+  walk_behind (suc n) p once there absent =
+      let es = walk ps n (place_at ps p).next in
+      let parts = and_parts (not (has_task p es)) (no_task_twice es) once in
+      let no-p = not-true (has_task p es) parts.0 in
+      let no-new = or_parts (eqb p new) (has_task new es) absent in
+      cond_both (eqb p q) (entry_of p (place_at ps p).direction ∷ entry_of new d ∷ es) (entry_of p (place_at ps p).direction ∷ behind_task q (entry_of new d) es) (λ l. walk ps' (suc (suc n)) p ≡ l)
+      (λ same.
+      let e = eqb-true p q same in
+      let no-q : has_task q es ≡ false = rw (← e) no-p in
+      let rest = rest_same n (place_at ps p).next no-q no-new.1 in
+      let leads = linked.leads in
+      let keeps = linked.keeps in
+      let goes_on = linked.goes_on in
+      let faces = linked.faces in
+      cc)
+      (λ other.
+      let ih : has_task q es ≡ true → walk ps' (suc n) (place_at ps p).next ≡ behind_task q (entry_of new d) es = λ h. walk_behind n (place_at ps p).next parts.1 h no-new.1 in
+      let here = linked.others p other no-new.0 in
+      let found : has_task q es ≡ true = grind (arith, nat_tests) in
+      rw here (ap (λ l. entry_of p (place_at ps p).direction ∷ l) (ih found)))
+
+-- a walk of some steps, by its first
+pub walk_first : (ps : List Place) (n p : ℕ) → 0 < n → walk ps n p ≡ entry_of p (place_at ps p).direction ∷ walk ps (n - 1) (place_at ps p).next
+walk_first ps zero p some = absurd (omega arith)
+walk_first ps (suc n) p some = let e : suc n - 1 ≡ n = omega arith in rw e refl
+
+-- the first place of a walk of some steps is one of the 64
+pub head_small : (ps : List Place) (n p : ℕ) → 0 < n → tasks_in_range (walk ps n p) ≡ true → p < 64
+head_small ps n p some fine =
+    let es = walk ps (n - 1) (place_at ps p).next in
+    ltb-true p 64 (and_parts (ltb p 64) (tasks_in_range es) (rw (walk_first ps n p some) at fine)).0
 
 -- a step along the walk
-step_at : (ps : List (Option Place)) (link : Option ℕ) (n k : ℕ) → entry_at (suc k) (walk ps link (suc n)) ≡ entry_at k (walk ps (next_of (linked_place ps link)) n)
-step_at ps None n k = refl
-step_at ps (Some t) n k =
-    elim (place_at ps t) as (λ r. entry_at (suc k) (met t r (walk ps (next_of r) n)) ≡ entry_at k (walk ps (next_of r) n)) [ None ↦ refl | Some p ↦ refl ]
+pub rest_small : (ps : List Place) (n p : ℕ) → 0 < n → tasks_in_range (walk ps n p) ≡ true → tasks_in_range (walk ps (n - 1) (place_at ps p).next) ≡ true
+rest_small ps n p some fine =
+    let es = walk ps (n - 1) (place_at ps p).next in
+    (and_parts (ltb p 64) (tasks_in_range es) (rw (walk_first ps n p some) at fine)).1
 
-pub next_at : (ps : List (Option Place)) (link : Option ℕ) (len place i : ℕ) → place < len → i < place → entry_at (place - (i + 1)) (walk ps (next_of (linked_place ps link)) (len - (i + 1))) ≡ entry_at (place - i) (walk ps link (len - i))
-next_at ps link len place i inside more =
-    let n : len - i ≡ suc (len - (i + 1)) = omega arith in
-    let k : place - i ≡ suc (place - (i + 1)) = omega arith in
-    rw (n, k) (sym (step_at ps link (len - (i + 1)) (place - (i + 1))))
+pub step_at : (ps : List Place) (n p k : ℕ) → 0 < n → 0 < k → entry_at k (walk ps n p) ≡ entry_at (k - 1) (walk ps (n - 1) (place_at ps p).next)
+step_at ps n p zero some more = absurd (omega arith)
+step_at ps n p (suc k) some more = let e : suc k - 1 ≡ k = omega arith in rw (e, walk_first ps n p some) refl
 
-first_at : (ps : List (Option Place)) (link : Option ℕ) (n : ℕ) → entry_at 0 (walk ps link (suc n)) ≡ linked_entry ps link
-first_at ps None n = refl
-first_at ps (Some t) n =
-    elim (place_at ps t) as (λ r. entry_at 0 (met t r (walk ps (next_of r) n)) ≡ entry_in t r) [ None ↦ refl | Some p ↦ refl ]
+-- the last entry of a walk, as a walk of one step
+pub walk_last : (ps : List Place) (n p : ℕ) → entry_at 0 (walk ps 1 (last_task (walk ps (suc n) p))) ≡ entry_at n (walk ps (suc n) p)
+walk_last ps zero p = refl
+walk_last ps (suc n) p = walk_last ps n (place_at ps p).next
 
-pub here_at : (ps : List (Option Place)) (link : Option ℕ) (len place : ℕ) → place < len → entry_at (place - place) (walk ps link (len - place)) ≡ linked_entry ps link
-here_at ps link len place inside =
-    let n : len - place ≡ suc (len - (place + 1)) = omega arith in
-    let none : place - place ≡ 0 = omega arith in
-    rw (n, none) (first_at ps link (len - (place + 1)))
+pub last_small : (ps : List Place) (n p : ℕ) → tasks_in_range (walk ps (suc n) p) ≡ true → tasks_in_range (walk ps 1 (last_task (walk ps (suc n) p))) ≡ true
+last_small ps zero p fine = fine
+last_small ps (suc n) p fine =
+    let next = (place_at ps p).next in
+    last_small ps n next (and_parts (ltb p 64) (tasks_in_range (walk ps (suc n) next)) fine).1
 
--- the last entry of a chain is that of its last task
-pub walk_last : (ps : List (Option Place)) (link : Option ℕ) (n : ℕ) → ends_after ps link (suc n) ≡ true → linked_entry ps (last_task (walk ps link (suc n))) ≡ entry_at n (walk ps link (suc n))
-walk_last ps link zero ends =
-    let b = begins ps link 0 ends in
-    let whole = walk_begins ps link 0 b.task b.place b.leads b.there ∙ ap (λ l. entry_of b.task b.place.direction ∷ l) (walk_none ps b.place.next) in
-    rw (whole, b.there) refl
-walk_last ps link (suc n) ends =
-    let b = begins ps link (suc n) ends in
-    let b' = begins ps b.place.next n b.others in
-    let rest = walk_begins ps b.place.next n b'.task b'.place b'.leads b'.there in
-    let whole = walk_begins ps link (suc n) b.task b.place b.leads b.there in
-    let ih = walk_last ps b.place.next n b.others in
-    let front : Entry = entry_of b.task b.place.direction in
-    let second : Entry = entry_of b'.task b'.place.direction in
-    let others = walk ps b'.place.next n in
-    let ih' : linked_entry ps (last_task (second ∷ others)) ≡ entry_at n (second ∷ others) = rw rest at ih in
-    rw (whole, rest) ih'
-
--- whether a task has a place after a write
-pub present_set : (ps : List (Option Place)) (k : ℕ) (x : Option Place) (t : ℕ) → k < length ps → is_some (place_at (set ps k x) t) ≡ cond (eqb k t) (is_some x) (is_some (place_at ps t))
-present_set ps k x t inside =
+-- the flag of a place after a write
+pub flag_set : (ps : List Place) (k : ℕ) (x : Place) (t : ℕ) → k < length ps → (place_at (set ps k x) t).present ≡ cond (eqb k t) x.present (place_at ps t).present
+flag_set ps k x t inside =
     elim (cases_eq k t) [
       | inl e ↦ rw (← e, get_or-set_same ps k x _ inside, eq-eqb k k refl) refl
       | inr ne ↦ rw (get_or-set_other ps k t x _ (λ e. ne (sym e)), ne_eqb k t ne) refl
     ]
 
--- a write to a place that is not on the chain leaves the walk
-pub walk_other : (ps : List (Option Place)) (k : ℕ) (x : Option Place) (link : Option ℕ) (n : ℕ) → ends_after ps link n ≡ true → has_task k (walk ps link n) ≡ false → Same ps (set ps k x) link n
-walk_other ps k x link n ends absent =
-    walk_same ps (set ps k x) link n ends (λ t there. get_or-set_other ps k t x _ (λ e. eqb-false k t (apart k t (walk ps link n) absent there) (sym e)))
+-- a write to a place that is not on the walk leaves the walk
+pub walk_other : (ps : List Place) (k : ℕ) (x : Place) (n p : ℕ) → has_task k (walk ps n p) ≡ false → walk (set ps k x) n p ≡ walk ps n p
+walk_other ps k x n p absent =
+    walk_same ps (set ps k x) n p (λ t there. get_or-set_other ps k t x _ (λ e. eqb-false k t (apart k t (walk ps n p) absent there) (sym e)))
 
-pub leads_set : (ps : List (Option Place)) (q new : ℕ) (p : Place) (d : Direction) → q < length ps → new < length ps → eqb q new ≡ false → place_at ps q ≡ Some p → Leads ps (set (set ps q (Some (record { next = Some new; direction = p.direction }))) new (Some (record { next = p.next; direction = d }))) q new p d
-leads_set ps q new p d q-in new_in other there =
-    let x : Option Place = Some (record { next = Some new; direction = p.direction }) in
-    let y : Option Place = Some (record { next = p.next; direction = d }) in
-    let ps₁ = set ps q x in
-    let new_in₁ : new < length ps₁ = simp length-set new_in in
+pub leads_set : (ps : List Place) (q new : ℕ) (d : Direction) (x y : Place) → q < length ps → new < length ps → eqb q new ≡ false → x.next ≡ (place_at ps q).next → x.direction ≡ d → y.next ≡ new → y.direction ≡ (place_at ps q).direction → Leads ps (set (set ps new x) q y) q new d
+leads_set ps q new d x y q-in new_in other goes faces leads keeps =
+    let ps₁ = set ps new x in
+    let q-in₁ : q < length ps₁ = simp length-set q-in in
+    let at-q : place_at (set ps₁ q y) q ≡ y = get_or-set_same ps₁ q y _ q-in₁ in
+    let at_new : place_at (set ps₁ q y) new ≡ x = get_or-set_other ps₁ q new y _ (λ e. eqb-false q new other (sym e)) ∙ get_or-set_same ps new x _ new_in in
     record {
-      there = there;
-      leads = get_or-set_other ps₁ new q y _ (eqb-false q new other) ∙ get_or-set_same ps q x _ q-in;
-      goes_on = get_or-set_same ps₁ new y _ new_in₁;
-      others = λ t no-q no-new. get_or-set_other ps₁ new t y _ (eqb-false t new no-new) ∙ get_or-set_other ps q t x _ (eqb-false t q no-q);
+      leads = rw at-q leads;
+      keeps = rw at-q keeps;
+      goes_on = rw at_new goes;
+      faces = rw at_new faces;
+      others = λ t no-q no-new. get_or-set_other ps₁ q t y _ (eqb-false t q no-q) ∙ get_or-set_other ps new t x _ (eqb-false t new no-new);
     }
-
--- A task of the chain that is not the last: its place is one of those, and n places begin with the task behind it.
-pub record Follows (ps : List (Option Place)) (t n : ℕ) : Type 0 where
-  pub inside : t < length ps
-  pub more : is_some (next_of (place_at ps t)) ≡ true
-  pub others : (u : ℕ) → Some u ≡ next_of (place_at ps t) → ends_after ps (Some u) n ≡ true
-
--- a task that has a place is one of the places
-inside_of : (ps : List (Option Place)) (t : ℕ) (p : Place) → place_at ps t ≡ Some p → t < length ps
-inside_of ps t p there =
-    elim (cases_Bool (ltb t (length ps))) [
-      | inl less ↦ ltb-true t (length ps) less
-      | inr past ↦ absurd (let none = get_or_past ps t None (ltb-false t (length ps) past) in cc (none, there))
-    ]
-
-follows : (ps : List (Option Place)) (t n : ℕ) → ends_after ps (Some t) (suc (suc n)) ≡ true → Follows ps t (suc n)
-follows ps t n ends =
-    let b = begins ps (Some t) (suc n) ends in
-    let b' = begins ps b.place.next n b.others in
-    let there : place_at ps t ≡ Some b.place = let same = b.leads in cc (same, b.there) in
-    let next-is : next_of (place_at ps t) ≡ b.place.next = ap next_of there in
-    record {
-      inside = inside_of ps t b.place there;
-      more = ap is_some (next-is ∙ b'.leads);
-      others = λ u is. ap (λ link. ends_after ps link (suc n)) (is ∙ next-is) ∙ b.others;
-    }
-
--- the walk to a place before the last goes on
-pub next_behind : (ps : List (Option Place)) (t len place i : ℕ) → place < len → i < place → ends_after ps (Some t) (len - i) ≡ true → Follows ps t (len - (i + 1))
-next_behind ps t len place i inside more ends =
-    let two : len - i ≡ suc (suc (len - (i + 2))) = omega arith in
-    let one : len - (i + 1) ≡ suc (len - (i + 2)) = omega arith in
-    subst (Follows ps t) (sym one) (follows ps t (len - (i + 2)) (sym (ap (ends_after ps (Some t)) two) ∙ ends))

@@ -2,29 +2,20 @@
 // joins without a search.
 #![tactic(auto)]
 
-ghost use Rattle.std.specs.Prelude.{◌≡◌, true, length};
-ghost use Rattle.queue.specs.Queues.{reader_count, tasks_in_range, no_task_twice, readers_are_neighbours};
-ghost use Rattle.chain.specs.Walks.{Present, ends_after, held, last_task, last_reader_of};
+ghost use Rattle.chain.specs.Walks.{Laws, Agrees, held};
 ghost use Rattle.std.proofs.Common.{rules};
 
 mod places;
 
-use places::{Links, PLACES};
+use places::{Links, NONE, PLACES, Place};
 use queue::WaitQueue;
 use types::{Direction, Entry};
 
 #[derive(Clone, Copy)]
 pub struct Chain {
     links: Links,
-    ghost in_range: { tasks_in_range (held links) ≡ true },
-    ghost none_twice: { no_task_twice (held links) ≡ true },
-    ghost neighbours: { readers_are_neighbours (held links) ≡ true },
-    ghost full: { length links.places ≡ 64 },
-    ghost present: { Present links.places (held links) },
-    ghost ends: { ends_after links.places links.head links.len ≡ true },
-    ghost tail: { links.tail ≡ last_task (held links) },
-    ghost last_reader: { links.last_reader ≡ last_reader_of (held links) },
-    ghost readers: { links.readers ≡ reader_count (held links) },
+    ghost laws: { Laws (held links) },
+    ghost agrees: { Agrees links },
 }
 
 impl WaitQueue for Chain {
@@ -37,11 +28,16 @@ impl WaitQueue for Chain {
     ghost neighbours = { Prim.search rules };
 
     fn fresh() -> Chain {
+        let blank = Place {
+            next: NONE,
+            direction: Direction::Read,
+            present: false,
+        };
         let links = Links {
-            places: [None; PLACES],
-            head: None,
-            tail: None,
-            last_reader: None,
+            places: [blank; PLACES],
+            head: NONE,
+            tail: NONE,
+            last_reader: NONE,
             readers: 0,
             len: 0,
         };
@@ -49,27 +45,29 @@ impl WaitQueue for Chain {
     }
 
     fn join(&mut self, task: u32, direction: Direction) -> bool {
-        if !self.links.is_free(task) {
+        let place = task as usize;
+        if place >= PLACES || self.links.places[place].present {
             return false;
         }
-        let task = task as u8;
-        let behind = self.links.goes_behind(direction);
-        self.links.link(behind, task, direction);
-        self.links.remember(behind, task, direction);
+        self.links.join(task as u8, direction);
         true
     }
 
     fn first(&self) -> Option<Entry> {
-        self.links.entry(self.links.head)
+        if self.links.len == 0 {
+            return None;
+        }
+        let task = self.links.head;
+        let direction = self.links.places[task as usize].direction;
+        Some(Entry { task, direction })
     }
 
     fn take_first(&mut self) -> Option<Entry> {
         let entry = self.first()?;
-        self.links.unlink_first(entry);
+        self.links.unlink_first();
         Some(entry)
     }
 
-    #[tactic(auto, using(crate::proofs::Walks::walk_length))]
     fn len(&self) -> u32 {
         self.links.len as u32
     }
@@ -79,17 +77,21 @@ impl WaitQueue for Chain {
     }
 
     fn entry_at(&self, place: u32) -> Option<Entry> {
-        if place >= self.len() {
+        if place >= self.links.len as u32 {
             return None;
         }
+        let mut task = self.links.head;
+        let mut left = place;
         // The last is known without a walk.
-        if place + 1 == self.len() {
-            return self.links.entry(self.links.tail);
+        if place + 1 == self.links.len as u32 {
+            task = self.links.tail;
+            left = 0;
         }
-        let mut task = self.links.head?;
-        for _ in 0..place {
-            task = self.links.behind(task);
+        while left > 0 {
+            task = self.links.places[task as usize].next;
+            left -= 1;
         }
-        self.links.entry(Some(task))
+        let direction = self.links.places[task as usize].direction;
+        Some(Entry { task, direction })
     }
 }

@@ -1,142 +1,129 @@
-// The places of a chain: one for each task that waits, with a link to the next. The last task, the last reader and the
-// number of readers are remembered, so that none is searched for.
-ghost use Rattle.std.specs.Prelude.{◌≡◌, ◌<◌, ◌≤◌, true, Some, is_some};
-ghost use Rattle.chain.specs.Walks.{Linkable, Linked, is_free, goes_behind, place_at, linked_place, linked_entry, next_of, readers_in, remembered, unlinked, except};
+// The places of a chain: one for each task, with the number of the next place. The last place of the chain, the last
+// reader's and the number of readers are remembered, so that none is searched for.
+ghost use Rattle.std.specs.Prelude.{◌≡◌, ◌<◌, true, if◌then◌else◌, nat_eq};
+ghost use Rattle.queue.specs.Queues.{can_join, placed, rest};
+ghost use Rattle.chain.specs.Walks.{Laws, Agrees, Linkable, Linked, held, goes_behind, readers_in, remembered};
 
-use types::{Direction, Entry};
+use types::Direction;
 
 // One place for each task, 0 to 63.
 pub(crate) const PLACES: usize = 64;
 
-// A task that waits, with the task directly behind it.
+// The number that stands for no place.
+pub(crate) const NONE: u8 = 64;
+
 #[derive(Clone, Copy)]
 pub(crate) struct Place {
-    pub(crate) next: Option<u8>,
+    pub(crate) next: u8,
     pub(crate) direction: Direction,
+    pub(crate) present: bool,
 }
 
-// A fixed array, since a wait queue never allocates.
 #[derive(Clone, Copy)]
 pub(crate) struct Links {
-    pub(crate) places: [Option<Place>; PLACES],
-    pub(crate) head: Option<u8>,
-    pub(crate) tail: Option<u8>,
-    pub(crate) last_reader: Option<u8>,
+    pub(crate) places: [Place; PLACES],
+    pub(crate) head: u8,
+    pub(crate) tail: u8,
+    pub(crate) last_reader: u8,
     pub(crate) readers: u8,
     pub(crate) len: u8,
 }
 
 impl Links {
-    // The place that a link leads to.
-    fn place(&self, link: Option<u8>) -> Option<Place>
-        ensures { result ≡ linked_place self.now.places link }
+    // Puts a task that may join where its direction says.
+    pub(crate) fn join(&mut self, task: u8, direction: Direction)
+        requires laws { Laws (held self.old) }
+        requires agrees { Agrees self.old }
+        requires can { can_join task (held self.old) ≡ true }
+        ensures queue { held self.new ≡ placed task direction (held self.old) }
+        ensures agrees { Agrees self.new }
     {
-        *self.places.get(link? as usize)?
+        let behind = self.goes_behind(direction);
+        self.remember(behind, task, direction);
+        self.link(behind, task, direction);
     }
 
-    // The entry that a link leads to.
-    pub(crate) fn entry(&self, link: Option<u8>) -> Option<Entry>
-        ensures { result ≡ linked_entry self.now.places link }
-    {
-        let task = link?;
-        let direction = self.place(link)?.direction;
-        Some(Entry { task, direction })
-    }
-
-    // The link to the task behind the one that a link leads to.
-    pub(crate) fn next(&self, link: Option<u8>) -> Option<u8>
-        ensures { result ≡ next_of (linked_place self.now.places link) }
-    {
-        self.place(link)?.next
-    }
-
-    // The task behind one that waits and is not the last.
-    pub(crate) fn behind(&self, task: u8) -> u8
-        requires inside { task < 64 }
-        requires more { is_some (next_of (place_at self.now.places task)) ≡ true }
-        ensures { Some result ≡ next_of (place_at self.now.places task) }
-    {
-        let place = self.places[task as usize];
-        match place {
-            Some(
-                Place {
-                    next: Some(next),
-                    ..
-                },
-            ) => next,
-            _ => unreachable!(),
-        }
-    }
-
-    // The task is one of the 64 and has no place.
-    pub(crate) fn is_free(&self, task: u32) -> bool
-        ensures { result ≡ is_free self.now.places task }
-    {
-        let place = task as usize;
-        place < PLACES && self.places[place].is_none()
-    }
-
-    // The task that one of this direction goes behind, or none in an empty chain.
-    pub(crate) fn goes_behind(&self, direction: Direction) -> Option<u8>
-        ensures { result ≡ goes_behind direction self.now.last_reader self.now.tail }
+    // The place that a task of this direction goes behind, or none in an empty chain.
+    fn goes_behind(&self, direction: Direction) -> u8
+        requires { Agrees self.now }
+        ensures { result ≡ goes_behind direction (held self.now) }
     {
         match direction {
-            Direction::Read => self.last_reader.or(self.tail),
-            Direction::Write => self.tail,
+            Direction::Read if self.last_reader != NONE => self.last_reader,
+            _ => self.tail,
         }
     }
 
     // The task is now last if it goes behind the last, and the last reader if it reads. Readers are counted.
-    pub(crate) fn remember(&mut self, behind: Option<u8>, task: u8, direction: Direction)
+    fn remember(&mut self, behind: u8, task: u8, direction: Direction)
         requires { self.old.readers < 64 }
         ensures { self.new ≡ remembered behind task direction self.old }
     {
         if behind == self.tail {
-            self.tail = Some(task);
+            self.tail = task;
         }
-        if direction == Direction::Read {
-            self.last_reader = Some(task);
-            self.readers += 1;
+        if let Direction::Read = direction {
+            self.last_reader = task;
         }
+        self.readers += readers_in(direction);
     }
 
-    // Puts the place of a task behind that of another, or first.
-    pub(crate) fn link(&mut self, behind: Option<u8>, task: u8, direction: Direction)
+    // Puts the place of a task behind a place of the chain, or first where the chain is empty.
+    fn link(&mut self, behind: u8, task: u8, direction: Direction)
         requires { Linkable self.old behind task }
         ensures { Linked self.old self.new behind task direction }
     {
-        let next = match behind {
-            None => self.head.replace(task),
-            Some(behind) => match &mut self.places[behind as usize] {
-                Some(place) => place.next.replace(task),
-                None => unreachable!(),
-            },
-        };
-        self.places[task as usize] = Some(Place { next, direction });
+        if self.len == 0 {
+            self.places[task as usize] = Place {
+                next: NONE,
+                direction,
+                present: true,
+            };
+            self.head = task;
+        } else {
+            let next = self.places[behind as usize].next;
+            self.places[task as usize] = Place {
+                next,
+                direction,
+                present: true,
+            };
+            self.places[behind as usize].next = task;
+        }
         self.len += 1;
     }
 
-    // Takes out the first place, which is that of this entry.
-    pub(crate) fn unlink_first(&mut self, first: Entry)
-        requires inside { first.task < 64 }
+    // Takes the first place out of a chain that has one.
+    pub(crate) fn unlink_first(&mut self)
+        requires laws { Laws (held self.old) }
+        requires agrees { Agrees self.old }
         requires some { 0 < self.old.len }
-        requires counted { readers_in first.direction ≤ self.old.readers }
-        ensures { self.new ≡ unlinked first self.old }
+        ensures queue { held self.new ≡ rest (held self.old) }
+        ensures agrees { Agrees self.new }
     {
-        self.head = self.next(self.head);
-        self.places[first.task as usize] = None;
-        self.tail = except(self.tail, first.task);
-        self.last_reader = except(self.last_reader, first.task);
-        if first.direction == Direction::Read {
-            self.readers -= 1;
-        }
+        let task = self.head;
+        let first = self.places[task as usize];
+        self.head = first.next;
+        self.places[task as usize].present = false;
         self.len -= 1;
+        self.tail = except(self.tail, task);
+        self.last_reader = except(self.last_reader, task);
+        self.readers -= readers_in(first.direction);
     }
 }
 
-// The link, unless it leads to the task that leaves.
-fn except(link: Option<u8>, leaving: u8) -> Option<u8>
-    ensures { result ≡ except link leaving }
+// The place, or none if it is the one that leaves.
+fn except(place: u8, leaving: u8) -> u8
+    ensures { result ≡ (if nat_eq place leaving then 64 else place) }
 {
-    link.filter(|task| *task != leaving)
+    if place == leaving { NONE } else { place }
+}
+
+// One for a reader, none for a writer.
+fn readers_in(direction: Direction) -> u8
+    ensures { result ≡ readers_in direction }
+{
+    match direction {
+        Direction::Read => 1,
+        Direction::Write => 0,
+    }
 }

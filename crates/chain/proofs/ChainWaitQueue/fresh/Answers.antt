@@ -1,7 +1,7 @@
-use Rattle.std.proofs.Common.{None, ap}
-use Rattle.std.specs.Option.{is_some}
+use Rattle.std.proofs.Common.{refl, ap}
 use Rattle.std.proofs.lemmas.List.{get_or-replicate}
+use Rattle.chain.specs.declared.places.Place.{Place}
 use Rattle.chain.proofs.ChainWaitQueue.fresh.Goals as goal
 
-pub invariant_of-result-clause-present : goal.invariant_of-result-clause-present
-invariant_of-result-clause-present c = λ task small. ap is_some (get_or-replicate 64 task None None small)
+pub invariant_of-result : goal.invariant_of-result
+invariant_of-result c = record { laws = (refl, refl, refl); agrees = (refl, λ task h. ap (λ (p : Place). p.present) (get_or-replicate 64 task _ _ h), refl, refl, refl) }

@@ -1,22 +1,17 @@
-use Rattle.std.proofs.Common.{sym, ap, ◌∙◌, subst, rules}
+use Rattle.std.proofs.Common.{◌≡◌, ◌<◌, true, not, ltb, sym, ◌∙◌, arith}
+use Rattle.std.proofs.lemmas.Bool.{and_from, lt-ltb, not_from_false}
+use Rattle.queue.specs.Queues.{has_task, can_join}
+use Rattle.queue.proofs.Laws.{placed_lawful}
 use Rattle.chain.specs.Walks.{held}
-use Rattle.chain.proofs.Links.{Kept, joinable, countable, joined_queue, joined_kept}
+use Rattle.chain.proofs.Entries.{laws_kept}
 use Rattle.chain.proofs.ChainWaitQueue.join.Goals as goal
-
-pub link-requires : goal.link-requires
-link-requires c =
-    joinable c.args.self.now c.args.task c.args.direction (sym c.is_free.ensures ∙ c.if-not-is_free.false) _ c.goes_behind-behind.ensures
-
-pub remember-requires : goal.remember-requires
-remember-requires c =
-    countable c.args.self.now c.args.task c.args.direction (sym c.is_free.ensures ∙ c.if-not-is_free.false) _ c.goes_behind-behind.ensures c.link.new.self c.link.ensures
 
 pub invariant_of-self : goal.invariant_of-self
 invariant_of-self c =
-    let kept : Kept c.remember.new.self = subst Kept (sym c.remember.ensures) (joined_kept c.args.self.now c.args.task c.args.direction (sym c.is_free.ensures ∙ c.if-not-is_free.false) _ c.goes_behind-behind.ensures c.link.new.self c.link.ensures) in
-    search rules
-
-pub returns-clause-queue : goal.returns-clause-queue
-returns-clause-queue c =
-    ap held c.remember.ensures
-    ∙ joined_queue c.args.self.now c.args.task c.args.direction (sym c.is_free.ensures ∙ c.if-not-is_free.false) _ c.goes_behind-behind.ensures c.link.new.self c.link.ensures
+    let q = c.args.self.now in
+    let es = held q.links in
+    let task = c.args.task in
+    let small : task < 64 = omega arith in
+    let absent = sym (q.agrees.1 task small) ∙ c.if-self-place.false in
+    let can : can_join task es ≡ true = and_from (ltb task 64) (not (has_task task es)) (lt-ltb task 64 small) (not_from_false (has_task task es) absent) in
+    record { laws = rw c.join.ensures.queue (laws_kept es _ (placed_lawful task c.args.direction es can) q.laws); agrees = c.join.ensures.agrees }
