@@ -9,7 +9,7 @@ use types::Direction;
 // One place for each task, 0 to 63.
 pub(crate) const PLACES: usize = 64;
 
-// The number that stands for no place.
+// The number that stands for no place. (No options: a walk would test each that it goes over, and take half as long again.)
 pub(crate) const NONE: u8 = 64;
 
 #[derive(Clone, Copy)]
